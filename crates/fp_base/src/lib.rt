@@ -1,0 +1,2 @@
+//! The outside of the analyser, and the names and texts that it speaks in.
+#![tactic(auto)]
