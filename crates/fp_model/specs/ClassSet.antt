@@ -1,0 +1,97 @@
+-- Sets of classes and interfaces, and when one is sound.
+use Rattle.std.specs.Prelude.{◌≡◌, ℕ, suc, zero, ◌+◌, ◌<◌, ◌≤◌, ◌^◌, ◌==◌, nat_lt, Bool, true, false, ◌||◌, List, [], ◌∷◌, length, take, map, filter, position, slice_get, option_and_then, Option, Some, None, IsTrue, IfSome, All, if◌then◌else◌}
+use Rattle.std.specs.List.{flat_map}
+use Rattle.std.specs.Ordering.{nat_cmp, is_lt}
+use Rattle.std.specs.Cmp.Lexicographic.{slice_cmp}
+use Rattle.fp_model.specs.declared.class.Class.{Class}
+use Rattle.fp_model.specs.declared.class.Field.{Field}
+use Rattle.fp_model.specs.declared.class.Method.{Method}
+use Rattle.fp_model.specs.Descriptor.{text_of, IsKindOf, IsDescrOf}
+
+-- a set of classes, and the table of names that its numbers are of
+pub record SetView : Type 0 where
+  pub classes : List Class
+  pub names : List (List ℕ)
+
+-- the fields of all classes, and the methods
+abbrev pub fields_of : List Class → List Field
+fields_of classes = flat_map (λ c. c.fields) classes
+
+abbrev pub methods_of : List Class → List Method
+methods_of classes = flat_map (λ c. c.methods) classes
+
+-- how many fields the classes before a number have, and how many methods
+abbrev pub first_field_of : List Class → ℕ → ℕ
+first_field_of classes id = length (fields_of (take id classes))
+
+abbrev pub first_method_of : List Class → ℕ → ℕ
+first_method_of classes id = length (methods_of (take id classes))
+
+-- the number of the first class of a name
+abbrev pub class_named : List Class → ℕ → Option ℕ
+class_named classes name = position (λ c. c.name == name) classes
+
+-- the superclass of a class, where it has one in the set
+abbrev pub superclass_of : List Class → ℕ → Option ℕ
+superclass_of classes id = option_and_then (λ c. option_and_then (class_named classes) c.parent) (slice_get classes id)
+
+-- the class that so many steps from superclass to superclass lead to
+abbrev pub ancestor_after : List Class → ℕ → ℕ → Option ℕ
+ancestor_after classes zero id = Some id
+ancestor_after classes (suc steps) id = option_and_then (superclass_of classes) (ancestor_after classes steps id)
+
+-- the value is this number
+abbrev pub is_number : ℕ → Option ℕ → Bool
+is_number n None = false
+is_number n (Some m) = m == n
+
+-- one of the first so many steps, but no step at all, leads back to the class
+abbrev pub comes_back : List Class → ℕ → ℕ → Bool
+comes_back classes zero id = false
+comes_back classes (suc steps) id = comes_back classes steps id || is_number id (ancestor_after classes (suc steps) id)
+
+-- a chain of superclasses comes back to the class; where one does, one does within as many steps as there are classes
+abbrev pub is_on_cycle : List Class → ℕ → Bool
+is_on_cycle classes id = comes_back classes (length classes) id
+
+-- more than one class has the name of this one
+abbrev pub has_namesake : List Class → Class → Bool
+has_namesake classes c = nat_lt 1 (length (filter (λ d. d.name == c.name) classes))
+
+-- a text comes before another, by their bytes
+abbrev pub is_before : List ℕ → List ℕ → Bool
+is_before a b = is_lt (slice_cmp nat_cmp a b)
+
+-- the first of texts by their bytes
+abbrev pub earlier : List ℕ → Option (List ℕ) → List ℕ
+earlier text None = text
+earlier text (Some other) = if is_before other text then other else text
+
+abbrev pub least_text : List (List ℕ) → Option (List ℕ)
+least_text [] = None
+least_text (text ∷ texts) = Some (earlier text (least_text texts))
+
+-- the numbers of a field, and of a method, are of the table, and their kinds are what their descriptors say
+pub record IsFieldOver (names : List (List ℕ)) (f : Field) : Type 0 where
+  pub name : f.name < length names
+  pub descr : f.descr < length names
+  pub kind : IsKindOf names (text_of names f.descr) f.kind
+
+pub record IsMethodOver (names : List (List ℕ)) (m : Method) : Type 0 where
+  pub name : m.name < length names
+  pub descr : m.descr < length names
+  pub kinds : IsDescrOf names (text_of names m.descr) m.kinds
+
+-- the numbers of a class are of the table, and so with its members
+pub record IsClassOver (names : List (List ℕ)) (c : Class) : Type 0 where
+  pub name : c.name < length names
+  pub parent : IfSome c.parent (λ n. n < length names)
+  pub interfaces : All (λ n. n < length names) c.interfaces
+  pub fields : All (IsFieldOver names) c.fields
+  pub methods : All (IsMethodOver names) c.methods
+
+-- fewer than 2 ^ 32 classes, fields and methods
+pub record AreFew (all : List Class) : Type 0 where
+  pub classes : length all < 2 ^ 32
+  pub fields : length (fields_of all) < 2 ^ 32
+  pub methods : length (methods_of all) < 2 ^ 32

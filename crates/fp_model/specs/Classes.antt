@@ -1,0 +1,52 @@
+-- The class that a raw class file stands for, in numbers of a table of names.
+use Rattle.std.specs.Prelude.{◌≡◌, ℕ, ◌-◌, ◌==◌, nat_lt, Bool, List, [], ◌∷◌, ◌++◌, length, take, drop, map, slice_get, option_and_then, unwrap_or, Option, Some, None, if◌then◌else◌}
+use Rattle.std.specs.List.{flat_map, AllZip}
+use Rattle.std.specs.Option.{option_to_list}
+use Rattle.fp_model.specs.declared.raw.pool.Entry.{Entry}
+use Rattle.fp_model.specs.declared.raw.RawMember.{RawMember}
+use Rattle.fp_model.specs.declared.raw.Raw.{Raw}
+use Rattle.fp_model.specs.declared.class.Class.{Class}
+use Rattle.fp_model.specs.declared.class.Field.{Field}
+use Rattle.fp_model.specs.Descriptor.{dimensions}
+use Rattle.fp_model.specs.Thin.{text_at, class_name_at}
+use Rattle.fp_model.specs.ClassSet.{IsClassOver}
+
+-- the class names in the type of an element: the bytes between 'L' and ';', where it is a class type
+abbrev pub element_names : List ℕ → List (List ℕ)
+element_names [] = []
+element_names (c ∷ rest) = if c == 76 then take (length rest - 1) rest ∷ [] else []
+
+-- the class names in a field descriptor
+abbrev pub kind_names : List ℕ → List (List ℕ)
+kind_names text = element_names (drop (dimensions text) text)
+
+-- the texts of a field, in order
+abbrev pub field_names : List Entry → RawMember → List (List ℕ)
+field_names entries field =
+    let descr = unwrap_or (text_at entries field.descr) [] in
+    unwrap_or (text_at entries field.name) [] ∷ (descr ∷ kind_names descr)
+
+-- the texts of a class, in order: its name, its superclass, its interfaces, and those of its fields
+abbrev pub raw_names : Raw → List (List ℕ)
+raw_names raw =
+    let entries = raw.pool.entries in
+    option_to_list (class_name_at entries raw.this)
+    ++ (option_to_list (class_name_at entries raw.parent)
+    ++ (flat_map (λ index. option_to_list (class_name_at entries index)) raw.interfaces
+    ++ flat_map (field_names entries) raw.fields))
+
+-- the field is that of the file
+pub record IsFieldOf (names : List (List ℕ)) (entries : List Entry) (f : Field) (field : RawMember) : Type 0 where
+  pub flags : f.flags ≡ field.flags
+  pub name : slice_get names f.name ≡ text_at entries field.name
+  pub descr : slice_get names f.descr ≡ text_at entries field.descr
+
+-- the class is that of the file
+pub record IsClassOf (names : List (List ℕ)) (c : Class) (raw : Raw) : Type 0 where
+  pub over : IsClassOver names c
+  pub flags : c.flags ≡ raw.flags
+  pub name : slice_get names c.name ≡ class_name_at raw.pool.entries raw.this
+  pub parent : option_and_then (slice_get names) c.parent ≡ class_name_at raw.pool.entries raw.parent
+  pub interfaces : map (slice_get names) c.interfaces ≡ map (class_name_at raw.pool.entries) raw.interfaces
+  pub fields : AllZip (IsFieldOf names raw.pool.entries) c.fields raw.fields
+  pub methods : c.methods ≡ []

@@ -1,0 +1,89 @@
+-- Descriptors (JVMS SE 21 section 4.3), as texts and as what they say.
+use Rattle.std.specs.Prelude.{◌≡◌, ℕ, ◌-◌, nat_le, nat_lt, ◌==◌, Bool, true, false, ◌&&◌, ◌||◌, not, List, [], ◌∷◌, ◌++◌, length, take, drop, replicate, codes, slice_get, slice_index, unwrap_or, Option, Some, None, IsTrue, IfSome, All}
+use Rattle.std.specs.List.{list_all, list_any, take_while, flat_map}
+use Rattle.fp_model.specs.declared.kind.Kind.{Kind}
+use Rattle.fp_model.specs.declared.kind.Kind.TheVariants as kind
+use Rattle.fp_model.specs.declared.kind.Elem.{Elem}
+use Rattle.fp_model.specs.declared.kind.Elem.TheVariants as elem
+use Rattle.fp_model.specs.declared.kind.Descr.{Descr}
+
+-- the byte is one of a text's
+abbrev pub is_among : List ℕ → ℕ → Bool
+is_among text byte = list_any (λ c. c == byte) text
+
+-- a byte that a class name in a descriptor may have: any but '.', ';' and '['
+abbrev pub is_name_byte : ℕ → Bool
+is_name_byte byte = not (is_among (codes ".;[") byte)
+
+-- one or more bytes of a name, and a ';'
+abbrev pub is_ended_name : List ℕ → Bool
+is_ended_name text = nat_lt 1 (length text) && ((slice_index text (length text - 1) == 59) && list_all is_name_byte (take (length text - 1) text))
+
+-- the letter of a primitive type, or 'L', a name and a ';'
+abbrev pub is_element : List ℕ → Bool
+is_element [] = false
+is_element (c ∷ rest) = (is_among (codes "BCDFIJSZ") c && (length rest == 0)) || ((c == 76) && is_ended_name rest)
+
+-- how many '[' a text begins with
+abbrev pub dimensions : List ℕ → ℕ
+dimensions text = length (take_while (λ c. c == 91) text)
+
+-- a field descriptor: at most 255 '[', and the type of an element
+abbrev pub is_field_descriptor : List ℕ → Bool
+is_field_descriptor text = nat_le (dimensions text) 255 && is_element (drop (dimensions text) text)
+
+-- the text begins like an array type
+abbrev pub is_array_like : List ℕ → Bool
+is_array_like text = nat_lt 0 (dimensions text)
+
+-- what a class entry may name (section 4.4.1): an array type by its descriptor, or any other text
+abbrev pub is_class_text : List ℕ → Bool
+is_class_text text = not (is_array_like text) || is_field_descriptor text
+
+-- the text of a number of a table of names
+abbrev pub text_of : List (List ℕ) → ℕ → List ℕ
+text_of names n = unwrap_or (slice_get names n) []
+
+-- the text of an element's type
+abbrev pub element_text : List (List ℕ) → Elem → List ℕ
+element_text names (elem.Prim letter) = letter ∷ []
+element_text names (elem.Class name) = 76 ∷ (text_of names name ++ (59 ∷ []))
+
+-- the field descriptor that says a kind
+abbrev pub kind_text : List (List ℕ) → Kind → List ℕ
+kind_text names (kind.Int letter) = letter ∷ []
+kind_text names kind.Long = codes "J"
+kind_text names kind.Float = codes "F"
+kind_text names kind.Double = codes "D"
+kind_text names (kind.Class name) = element_text names (elem.Class name)
+kind_text names (kind.Array dims element) = replicate dims 91 ++ element_text names element
+
+-- a kind by its proper variant: an int by one of its letters, an array with a dimension
+abbrev pub is_proper : Kind → Bool
+is_proper (kind.Int letter) = is_among (codes "BCISZ") letter
+is_proper (kind.Array dims element) = nat_lt 0 dims
+is_proper _ = true
+
+-- a kind over a table of names
+abbrev pub is_kind : List (List ℕ) → Kind → Bool
+is_kind names k = is_proper k && is_field_descriptor (kind_text names k)
+
+-- the kind is what a field descriptor says
+pub record IsKindOf (names : List (List ℕ)) (text : List ℕ) (k : Kind) : Type 0 where
+  pub written : kind_text names k ≡ text
+  pub kind : IsTrue (is_kind names k)
+
+-- the text of a method's result
+abbrev pub result_text : List (List ℕ) → Option Kind → List ℕ
+result_text names None = codes "V"
+result_text names (Some k) = kind_text names k
+
+-- the method descriptor that says the kinds of parameters and result (section 4.3.3)
+abbrev pub descr_text : List (List ℕ) → Descr → List ℕ
+descr_text names d = 40 ∷ (flat_map (kind_text names) d.args ++ (41 ∷ result_text names d.result))
+
+-- the kinds are what a method descriptor says
+pub record IsDescrOf (names : List (List ℕ)) (text : List ℕ) (d : Descr) : Type 0 where
+  pub written : descr_text names d ≡ text
+  pub args : IsTrue (list_all (is_kind names) d.args)
+  pub result : IfSome d.result (λ k. IsTrue (is_kind names k))

@@ -1,0 +1,172 @@
+-- Thin class files, which are those that are read so far: the constant pool has texts and classes alone, there is no
+-- method and no attribute, and the class is no module (JVMS SE 21 chapter 4).
+use Rattle.std.specs.Prelude.{◌≡◌, ℕ, ◌-◌, ◌<◌, ◌^◌, ◌==◌, nat_le, nat_lt, Bool, true, false, ◌&&◌, ◌||◌, not, List, [], ◌∷◌, length, codes, slice_get, unwrap_or, is_some, Option, Some, None, IsTrue, Result, Ok, Err, if◌then◌else◌}
+use Rattle.std.specs.List.{list_all, list_any}
+use Rattle.std.specs.Str.{bytes_eq}
+use Rattle.std.specs.Int.{w8, w16, w32}
+use Rattle.fp_model.specs.declared.fault.FileFault.{FileFault}
+use Rattle.fp_model.specs.declared.raw.pool.Entry.{Entry}
+use Rattle.fp_model.specs.declared.raw.pool.Entry.TheVariants as entry
+use Rattle.fp_model.specs.declared.raw.pool.Pool.{Pool}
+use Rattle.fp_model.specs.declared.raw.RawMember.{RawMember}
+use Rattle.fp_model.specs.declared.raw.Raw.{Raw}
+use Rattle.fp_model.specs.Descriptor.{is_field_descriptor, is_class_text, is_array_like}
+use Rattle.fp_model.specs.Spelling.{spelled}
+use Rattle.fp_model.specs.Reading.{unbuilt, demanded, number_at, bytes_at, many_at, counted_at, ◌>>=◌}
+
+-- a number of two bytes
+abbrev pub is_u2 : ℕ → Bool
+is_u2 n = nat_lt n 65536
+
+-- the test is passed by what is there
+abbrev pub passes : {A : Type 0} → (A → Bool) → Option A → Bool
+passes test None = false
+passes test (Some x) = test x
+
+-- the text of an entry, where it is one
+abbrev pub text_in : Option Entry → Option (List ℕ)
+text_in (Some (entry.Utf8 text)) = Some text
+text_in _ = None
+
+-- the text at an index
+abbrev pub text_at : List Entry → ℕ → Option (List ℕ)
+text_at entries index = text_in (slice_get entries index)
+
+-- the name of the class that an entry stands for
+abbrev pub class_name_in : List Entry → Option Entry → Option (List ℕ)
+class_name_in entries (Some (entry.Class name)) = text_at entries name
+class_name_in entries _ = None
+
+-- the name of the class at an index
+abbrev pub class_name_at : List Entry → ℕ → Option (List ℕ)
+class_name_at entries index = class_name_in entries (slice_get entries index)
+
+-- an entry that is read so far
+abbrev pub is_thin_entry : Entry → Bool
+is_thin_entry (entry.Utf8 text) = is_u2 (length text)
+is_thin_entry (entry.Class name) = is_u2 name
+is_thin_entry _ = false
+
+-- a class entry refers to a text that a class may have (section 4.4.1)
+abbrev pub is_sound_entry : List Entry → Entry → Bool
+is_sound_entry entries (entry.Class name) = passes is_class_text (text_at entries name)
+is_sound_entry entries _ = true
+
+-- index 0 holds nothing, and every other index a text or a class
+abbrev pub is_thin_pool : List Entry → Bool
+is_thin_pool (entry.Unused ∷ entries) = nat_lt (length entries) 65535 && (list_all is_thin_entry entries && list_all (is_sound_entry (entry.Unused ∷ entries)) entries)
+is_thin_pool _ = false
+
+-- the index is that of a class which is no array
+abbrev pub is_class_index : List Entry → ℕ → Bool
+is_class_index entries index = passes (λ name. not (is_array_like name)) (class_name_at entries index)
+
+-- the superclass: a class, or none for `java/lang/Object` (section 4.1)
+abbrev pub is_parent : List Entry → (this parent : ℕ) → Bool
+is_parent entries this parent = is_class_index entries parent || ((parent == 0) && passes (bytes_eq (codes "java/lang/Object")) (class_name_at entries this))
+
+-- a field whose name is a text, and whose descriptor is a field's (section 4.5)
+abbrev pub is_thin_field : List Entry → RawMember → Bool
+is_thin_field entries field = is_u2 field.flags && (is_some (text_at entries field.name) && (passes is_field_descriptor (text_at entries field.descr) && (length field.attributes == 0)))
+
+-- two members of one name and descriptor, by their texts
+abbrev pub is_repeat : List Entry → RawMember → RawMember → Bool
+is_repeat entries a b =
+    bytes_eq (unwrap_or (text_at entries a.name) []) (unwrap_or (text_at entries b.name) [])
+    && bytes_eq (unwrap_or (text_at entries a.descr) []) (unwrap_or (text_at entries b.descr) [])
+
+-- no two members have one name and descriptor
+abbrev pub has_no_repeat : List Entry → List RawMember → Bool
+has_no_repeat entries [] = true
+has_no_repeat entries (member ∷ members) = not (list_any (is_repeat entries member) members) && has_no_repeat entries members
+
+-- the class file versions that are read: 50 to 65, with minor 0
+abbrev pub is_version : (major minor : ℕ) → Bool
+is_version major minor = nat_le 50 major && (nat_le major 65 && (minor == 0))
+
+-- what holds of a thin class file; the flag for a module is the highest of the flags (section 4.1)
+abbrev pub is_thin : Raw → Bool
+is_thin raw =
+    is_version raw.major raw.minor
+    && (is_thin_pool raw.pool.entries
+    && (nat_lt raw.flags 0x8000
+    && (is_class_index raw.pool.entries raw.this
+    && (is_parent raw.pool.entries raw.this raw.parent
+    && (nat_lt (length raw.interfaces) 65536
+    && (list_all (is_class_index raw.pool.entries) raw.interfaces
+    && (nat_lt (length raw.fields) 65536
+    && (list_all (is_thin_field raw.pool.entries) raw.fields
+    && (has_no_repeat raw.pool.entries raw.fields
+    && ((length raw.methods == 0)
+    && (length raw.attributes == 0)))))))))))
+
+-- a class file that is read so far, shorter than 2 ^ 32 bytes
+pub record IsThin (raw : Raw) : Type 0 where
+  pub thin : IsTrue (is_thin raw)
+  pub short : length (spelled raw) < 2 ^ 32
+
+-- a text: its length, and its bytes
+unfoldable pub text_entry_at : List ℕ → ℕ → Result (Entry × ℕ) FileFault
+text_entry_at bytes at = do
+  count ← number_at w16 bytes at
+  text ← bytes_at count.0 bytes count.1
+  Ok (entry.Utf8 text.0, text.1)
+
+-- a class: the index of its name
+unfoldable pub class_entry_at : List ℕ → ℕ → Result (Entry × ℕ) FileFault
+class_entry_at bytes at = do
+  name ← number_at w16 bytes at
+  Ok (entry.Class name.0, name.1)
+
+-- an entry, by its tag
+unfoldable pub entry_at : List ℕ → ℕ → Result (Entry × ℕ) FileFault
+entry_at bytes at = do
+  tag ← number_at w8 bytes at
+  if tag.0 == 1 then text_entry_at bytes tag.1
+      else if tag.0 == 7 then class_entry_at bytes tag.1
+      else Err unbuilt
+
+-- the constant pool: how many indexes there are, with index 0, and the entries
+unfoldable pub pool_at : List ℕ → ℕ → Result (List Entry × ℕ) FileFault
+pool_at bytes at = do
+  count ← number_at w16 bytes at
+  has_first ← demanded (nat_lt 0 count.0) unbuilt
+  entries ← many_at (entry_at bytes) (count.0 - 1) [] count.1
+  Ok (entry.Unused ∷ entries.0, entries.1)
+
+-- a field without attributes
+unfoldable pub field_at : List ℕ → ℕ → Result (RawMember × ℕ) FileFault
+field_at bytes at = do
+  flags ← number_at w16 bytes at
+  name ← number_at w16 bytes flags.1
+  descr ← number_at w16 bytes name.1
+  attributes ← number_at w16 bytes descr.1
+  is_bare ← demanded (attributes.0 == 0) unbuilt
+  Ok (record { flags = flags.0; name = name.0; descr = descr.0; attributes = [] }, attributes.1)
+
+-- the parts of a file, in the order of section 4.1
+unfoldable pub parts_of : List ℕ → Result Raw FileFault
+parts_of bytes = do
+  magic ← number_at w32 bytes 0
+  is_class ← demanded (magic.0 == 0xCAFEBABE) unbuilt
+  minor ← number_at w16 bytes magic.1
+  major ← number_at w16 bytes minor.1
+  pool ← pool_at bytes major.1
+  flags ← number_at w16 bytes pool.1
+  this ← number_at w16 bytes flags.1
+  parent ← number_at w16 bytes this.1
+  interfaces ← counted_at (number_at w16 bytes) bytes parent.1
+  fields ← counted_at (field_at bytes) bytes interfaces.1
+  methods ← number_at w16 bytes fields.1
+  has_no_method ← demanded (methods.0 == 0) unbuilt
+  attributes ← number_at w16 bytes methods.1
+  has_no_attribute ← demanded (attributes.0 == 0) unbuilt
+  is_whole ← demanded (attributes.1 == length bytes) unbuilt
+  Ok (record { minor = minor.0; major = major.0; pool = record { entries = pool.0 }; flags = flags.0; this = this.0; parent = parent.0; interfaces = interfaces.0; fields = fields.0; methods = []; attributes = [] })
+
+-- the thin class file that the bytes are, or the fault
+unfoldable pub class_of : List ℕ → Result Raw FileFault
+class_of bytes = do
+  raw ← parts_of bytes
+  passed ← demanded (is_thin raw) unbuilt
+  Ok raw

@@ -1,0 +1,15 @@
+//! The plain data of class files and of sets of classes (JVMS SE 21 chapter 4).
+#![tactic(auto)]
+
+mod class;
+mod fault;
+mod kind;
+mod raw;
+
+pub use class::instr::{BootArg, BootRef, Instr};
+pub use class::{Class, ClassId, Code, Field, FieldId, Guard, Method, MethodId, SiteId};
+pub use fault::FileFault;
+pub use kind::{Descr, Elem, Kind, Sort};
+pub use raw::attribute::{BootRow, CatchRow, RawAttr, RawBody, RawCode, RawIns};
+pub use raw::pool::{Entry, Pool};
+pub use raw::{Raw, RawMember};
