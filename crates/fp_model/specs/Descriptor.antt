@@ -1,5 +1,5 @@
 -- Descriptors (JVMS SE 21 section 4.3), as texts and as what they say.
-use Rattle.std.specs.Prelude.{◌≡◌, ℕ, ◌-◌, nat_le, nat_lt, ◌==◌, Bool, true, false, ◌&&◌, ◌||◌, not, List, [], ◌∷◌, ◌++◌, length, take, drop, replicate, codes, slice_get, slice_index, unwrap_or, Option, Some, None, IsTrue, IfSome, All}
+use Rattle.std.specs.Prelude.{◌≡◌, ℕ, ◌-◌, nat_le, nat_lt, ◌==◌, Bool, true, false, ◌&&◌, ◌||◌, not, List, [], ◌∷◌, ◌++◌, length, take, drop, replicate, codes, slice_get, slice_index, unwrap_or, Option, Some, None, IsTrue, IfSome, if◌then◌else◌}
 use Rattle.std.specs.List.{list_all, list_any, take_while, flat_map}
 use Rattle.fp_model.specs.declared.kind.Kind.{Kind}
 use Rattle.fp_model.specs.declared.kind.Kind.TheVariants as kind
@@ -19,10 +19,10 @@ is_name_byte byte = not (is_among (codes ".;[") byte)
 abbrev pub is_ended_name : List ℕ → Bool
 is_ended_name text = nat_lt 1 (length text) && ((slice_index text (length text - 1) == 59) && list_all is_name_byte (take (length text - 1) text))
 
--- the letter of a primitive type, or 'L', a name and a ';'
+-- 'L', a name and a ';', or the letter of a primitive type
 abbrev pub is_element : List ℕ → Bool
 is_element [] = false
-is_element (c ∷ rest) = (is_among (codes "BCDFIJSZ") c && (length rest == 0)) || ((c == 76) && is_ended_name rest)
+is_element (c ∷ rest) = if c == 76 then is_ended_name rest else (is_among (codes "BCDFIJSZ") c && (length rest == 0))
 
 -- how many '[' a text begins with
 abbrev pub dimensions : List ℕ → ℕ

@@ -2,12 +2,15 @@
 #![tactic(auto)]
 
 mod class;
+mod descriptor;
 mod fault;
 mod kind;
 mod raw;
+pub mod reading;
 
 pub use class::instr::{BootArg, BootRef, Instr};
 pub use class::{Class, ClassId, Code, Field, FieldId, Guard, Method, MethodId, SiteId};
+pub use descriptor::is_kind;
 pub use fault::FileFault;
 pub use kind::{Descr, Elem, Kind, Sort};
 pub use raw::attribute::{BootRow, CatchRow, RawAttr, RawBody, RawCode, RawIns};
