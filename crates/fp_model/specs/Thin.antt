@@ -126,13 +126,17 @@ entry_at bytes at = do
       else if tag.0 == 7 then class_entry_at bytes tag.1
       else Err unbuilt
 
--- the constant pool: how many indexes there are, with index 0, and the entries
-unfoldable pub pool_at : List ℕ → ℕ → Result (List Entry × ℕ) FileFault
+-- index 0, which holds nothing, and so many entries
+abbrev pub entries_at : ℕ → List ℕ → ℕ → Result (List Entry × ℕ) FileFault
+entries_at count bytes at = many_at (entry_at bytes) count (entry.Unused ∷ []) at
+
+-- the constant pool: how many indexes there are, with index 0, and what they hold
+unfoldable pub pool_at : List ℕ → ℕ → Result (Pool × ℕ) FileFault
 pool_at bytes at = do
   count ← number_at w16 bytes at
   has_first ← demanded (nat_lt 0 count.0) unbuilt
-  entries ← many_at (entry_at bytes) (count.0 - 1) [] count.1
-  Ok (entry.Unused ∷ entries.0, entries.1)
+  entries ← entries_at (count.0 - 1) bytes count.1
+  Ok (record { entries = entries.0 }, entries.1)
 
 -- a field without attributes
 unfoldable pub field_at : List ℕ → ℕ → Result (RawMember × ℕ) FileFault
@@ -162,7 +166,7 @@ parts_of bytes = do
   attributes ← number_at w16 bytes methods.1
   has_no_attribute ← demanded (attributes.0 == 0) unbuilt
   is_whole ← demanded (attributes.1 == length bytes) unbuilt
-  Ok (record { minor = minor.0; major = major.0; pool = record { entries = pool.0 }; flags = flags.0; this = this.0; parent = parent.0; interfaces = interfaces.0; fields = fields.0; methods = []; attributes = [] })
+  Ok (record { minor = minor.0; major = major.0; pool = pool.0; flags = flags.0; this = this.0; parent = parent.0; interfaces = interfaces.0; fields = fields.0; methods = []; attributes = [] })
 
 -- the thin class file that the bytes are, or the fault
 unfoldable pub class_of : List ℕ → Result Raw FileFault
