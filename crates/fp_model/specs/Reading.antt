@@ -1,5 +1,5 @@
 -- Reading by offset: what stands there, with the offset after it, or a fault. An offset may lie past the end.
-use Rattle.std.specs.Prelude.{◌≡◌, ℕ, zero, suc, ◌+◌, nat_le, Bool, List, [], ◌∷◌, ◌++◌, length, take, drop, Result, Ok, Err, if◌then◌else◌}
+use Rattle.std.specs.Prelude.{◌≡◌, ℕ, zero, suc, ◌+◌, ◌==◌, nat_le, Bool, List, [], ◌∷◌, ◌++◌, length, take, drop, Result, Ok, Err, if◌then◌else◌}
 use Rattle.std.specs.Int.{Width, w8, w16, w32, byte_len, from_be_bytes}
 use Rattle.fp_model.specs.declared.fault.FileFault.{FileFault}
 use Rattle.fp_model.specs.declared.fault.FileFault.TheVariants as fault
@@ -51,3 +51,10 @@ unfoldable pub counted_at : {A : Type 0} → (ℕ → Result (A × ℕ) FileFaul
 counted_at read bytes at = do
   count ← number_at w16 bytes at
   many_at read count.0 [] count.1
+
+-- a count of 0
+unfoldable pub nothing_at : List ℕ → ℕ → Result ℕ FileFault
+nothing_at bytes at = do
+  count ← number_at w16 bytes at
+  is_none ← demanded (count.0 == 0) unbuilt
+  Ok count.1
