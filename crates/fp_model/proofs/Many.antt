@@ -1,8 +1,8 @@
 -- Loops that read so many things of one kind, one after the other.
-use Rattle.std.proofs.Common.{◌≡◌, ℕ, zero, suc, ◌+◌, ◌-◌, ◌<◌, List, [], ◌∷◌, ◌++◌, Result, Ok, Err, refl, sym, ◌∙◌, ap, subst, arith}
+use Rattle.std.proofs.Common.{◌≡◌, ℕ, suc, ◌+◌, ◌-◌, ◌<◌, List, [], ◌∷◌, ◌++◌, Result, Ok, refl, arith}
 use Rattle.fp_model.specs.declared.fault.FileFault.{FileFault}
 use Rattle.fp_model.specs.declared.fault.FileFault.TheVariants as fault
-use Rattle.fp_model.specs.Reading.{◌>>=◌, Fails, Gives, many_at}
+use Rattle.fp_model.specs.Reading.{◌>>=◌, Fails, many_at}
 
 -- the first step of a loop, where it gave something
 first : {A : Type 0} (read : ℕ → Result (A × ℕ) FileFault) (left at : ℕ) (before : List A) (x : A × ℕ) → read at ≡ Ok x → many_at read (suc left) before at ≡ many_at read left (before ++ x.0 ∷ []) x.1

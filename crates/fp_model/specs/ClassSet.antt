@@ -1,5 +1,5 @@
 -- Sets of classes and interfaces, and when one is sound.
-use Rattle.std.specs.Prelude.{◌≡◌, ℕ, suc, zero, ◌+◌, ◌<◌, ◌≤◌, ◌^◌, ◌==◌, nat_lt, Bool, true, false, ◌||◌, List, [], ◌∷◌, length, take, map, filter, position, slice_get, option_and_then, Option, Some, None, IsTrue, IfSome, All, if◌then◌else◌}
+use Rattle.std.specs.Prelude.{ℕ, suc, zero, ◌<◌, ◌^◌, ◌==◌, nat_lt, Bool, false, ◌||◌, List, [], ◌∷◌, length, take, filter, position, slice_get, option_and_then, Option, Some, None, IfSome, All, if◌then◌else◌}
 use Rattle.std.specs.List.{flat_map}
 use Rattle.std.specs.Ordering.{nat_cmp, is_lt}
 use Rattle.std.specs.Cmp.Lexicographic.{slice_cmp}

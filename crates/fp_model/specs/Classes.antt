@@ -1,5 +1,5 @@
 -- The class that a raw class file stands for, in numbers of a table of names.
-use Rattle.std.specs.Prelude.{◌≡◌, ℕ, ◌-◌, ◌==◌, nat_lt, Bool, List, [], ◌∷◌, ◌++◌, length, take, drop, map, slice_get, option_and_then, unwrap_or, Option, Some, None, if◌then◌else◌}
+use Rattle.std.specs.Prelude.{◌≡◌, ℕ, List, [], ◌∷◌, ◌++◌, map, slice_get, option_and_then, unwrap_or}
 use Rattle.std.specs.List.{flat_map, AllZip}
 use Rattle.std.specs.Option.{option_to_list}
 use Rattle.fp_model.specs.declared.raw.pool.Entry.{Entry}
@@ -7,18 +7,9 @@ use Rattle.fp_model.specs.declared.raw.RawMember.{RawMember}
 use Rattle.fp_model.specs.declared.raw.Raw.{Raw}
 use Rattle.fp_model.specs.declared.class.Class.{Class}
 use Rattle.fp_model.specs.declared.class.Field.{Field}
-use Rattle.fp_model.specs.Descriptor.{dimensions}
+use Rattle.fp_model.specs.Descriptor.{kind_names}
 use Rattle.fp_model.specs.Thin.{text_at, class_name_at}
 use Rattle.fp_model.specs.ClassSet.{IsClassOver}
-
--- the class names in the type of an element: the bytes between 'L' and ';', where it is a class type
-abbrev pub element_names : List ℕ → List (List ℕ)
-element_names [] = []
-element_names (c ∷ rest) = if c == 76 then take (length rest - 1) rest ∷ [] else []
-
--- the class names in a field descriptor
-abbrev pub kind_names : List ℕ → List (List ℕ)
-kind_names text = element_names (drop (dimensions text) text)
 
 -- the texts of a field, in order
 abbrev pub field_names : List Entry → RawMember → List (List ℕ)

@@ -68,6 +68,15 @@ is_proper _ = true
 abbrev pub is_kind : List (List ℕ) → Kind → Bool
 is_kind names k = is_proper k && is_field_descriptor (kind_text names k)
 
+-- the class names in the type of an element: the bytes between 'L' and ';', where it is a class type
+abbrev pub element_names : List ℕ → List (List ℕ)
+element_names [] = []
+element_names (c ∷ rest) = if c == 76 then take (length rest - 1) rest ∷ [] else []
+
+-- the class names in a field descriptor
+abbrev pub kind_names : List ℕ → List (List ℕ)
+kind_names text = element_names (drop (dimensions text) text)
+
 -- the kind is what a field descriptor says
 pub record IsKindOf (names : List (List ℕ)) (text : List ℕ) (k : Kind) : Type 0 where
   pub written : kind_text names k ≡ text

@@ -1,5 +1,5 @@
 -- The bytes of a class file, part by part in the order of JVMS SE 21 section 4.1.
-use Rattle.std.specs.Prelude.{ℕ, Bool, List, [], ◌∷◌, ◌++◌, length, if◌then◌else◌}
+use Rattle.std.specs.Prelude.{ℕ, List, [], ◌∷◌, ◌++◌, length, if◌then◌else◌}
 use Rattle.std.specs.List.{flat_map}
 use Rattle.std.specs.Int.{to_be_bytes, w16, w32, w64}
 use Rattle.fp_model.specs.declared.raw.pool.Entry.{Entry}
