@@ -1,0 +1,3 @@
+//! Directories and sinks in memory, whose calls fail where their maker says.
+
+pub mod mem_sink;
