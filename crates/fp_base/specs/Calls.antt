@@ -1,7 +1,7 @@
 -- Calls on a directory, and the cause of an answer that is not Ok.
 use Rattle.std.specs.Prelude.{◌≡◌, ℕ, List, ◌++◌, Contains, Result, IsErrOf, string_bytes}
-use Rattle.fp_base.specs.declared.outside.dir.DirCall.{DirCall}
-use Rattle.fp_base.specs.declared.outside.dir.DirCall.TheVariants as code
+use Rattle.fp_base.specs.declared.outside.call.DirCall.{DirCall}
+use Rattle.fp_base.specs.declared.outside.call.DirCall.TheVariants as code
 use Rattle.fp_base.specs.declared.outside.dir.DirFault.{DirFault}
 use Rattle.fp_base.specs.declared.outside.dir.DirFault.TheVariants.{Failed}
 

@@ -1,6 +1,7 @@
 -- What a put leaves of a sink, and the cause of an answer that is not Ok.
-use Rattle.std.specs.Prelude.{◌≡◌, ℕ, ◌+◌, ◌-◌, ◌^◌, ◌≤◌, min, List, ◌++◌, Option, Result, IsErrOf}
+use Rattle.std.specs.Prelude.{◌≡◌, ℕ, ◌≤◌, List, ◌++◌, Option, Result, IsErrOf}
 use Rattle.std.specs.Io.KnownBytes.{append_known}
+use Rattle.fp_base.specs.Counters.{Rose}
 use Rattle.fp_base.specs.declared.outside.sink.SinkFault.{SinkFault}
 use Rattle.fp_base.specs.declared.outside.sink.SinkFault.TheVariants.{Failed}
 
@@ -10,14 +11,6 @@ pub record AppendsPart (old new : Option (List ℕ)) (whole : List ℕ) : Type 0
   pub rest : List ℕ
   pub split : whole ≡ part ++ rest
   pub appended : new ≡ append_known old part
-
--- one more, short of the last value of a `u64`
-abbrev pub one_more : ℕ → ℕ
-one_more count = min (count + 1) (2 ^ 64 - 1)
-
--- a count went up, or stands at the last value of a `u64`
-abbrev pub Rose : ℕ → ℕ → Type 0
-Rose before now = one_more before ≤ now
 
 -- the count of faults never falls, and at Failed it rose
 pub record HasSinkCause {T : Type 0} (before now : ℕ) (result : Result T SinkFault) : Type 0 where

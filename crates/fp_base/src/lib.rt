@@ -4,6 +4,9 @@
 mod memory;
 mod outside;
 
+pub use memory::files::has_distinct_paths;
+pub use memory::mem_dir::MemDir;
 pub use memory::mem_sink::{MemSink, has_distinct_calls};
-pub use outside::dir::{ClassDir, DirCall, DirFault};
+pub use outside::call::DirCall;
+pub use outside::dir::{ClassDir, DirFault};
 pub use outside::sink::{Sink, SinkFault};

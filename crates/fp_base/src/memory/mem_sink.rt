@@ -1,6 +1,7 @@
 ghost use Rattle.std.specs.Prelude.{◌≡◌, ℕ, [], ◌++◌, length, take, IsTrue, IsNone, IsSomeAnd, Some, OnOk, OnErr, IsErrOf};
 ghost use Rattle.std.specs.Io.KnownBytes.{append_known};
-ghost use Rattle.fp_base.specs.Faults.{one_more, AppendsPart, HasSinkCause};
+ghost use Rattle.fp_base.specs.Counters.{one_more};
+ghost use Rattle.fp_base.specs.Faults.{AppendsPart, HasSinkCause};
 ghost use Rattle.fp_base.specs.MemSink.{distinct_calls, kept_at};
 
 use crate::outside::sink::{Sink, SinkFault};
@@ -84,18 +85,16 @@ impl Sink for MemSink {
     ghost faults = { λ s. s.faults };
 
     fn put(&mut self, piece: &[u8]) -> Result<(), SinkFault>
-        ensures whole { OnOk result (⟦<MemSink as Sink>⟧.told self.new ≡ append_known (⟦<MemSink as Sink>⟧.told self.old) piece.now) }
-        ensures prefix { OnErr result (AppendsPart (⟦<MemSink as Sink>⟧.told self.old) (⟦<MemSink as Sink>⟧.told self.new) piece.now) }
-        ensures memory { IsErrOf result SinkFault.Memory → ⟦<MemSink as Sink>⟧.told self.new ≡ ⟦<MemSink as Sink>⟧.told self.old }
-        ensures cause { HasSinkCause (⟦<MemSink as Sink>⟧.faults self.old) (⟦<MemSink as Sink>⟧.faults self.new) result }
+        // Which calls fail, and what each answer leaves.
+        ensures whole { OnOk result (self.new ≡ record self.old { bytes = self.old.bytes ++ piece.now; calls = one_more self.old.calls }) }
+        ensures no_failing_call { OnOk result (IsNone (kept_at self.old.failing self.old.calls)) }
+        ensures failing_call { IsErrOf result SinkFault.Failed
+            → IsSomeAnd (kept_at self.old.failing self.old.calls) (λ kept. self.new ≡ record self.old { bytes = self.old.bytes ++ take kept piece.now; calls = one_more self.old.calls; faults = one_more self.old.faults }) }
+        ensures memory { IsErrOf result SinkFault.Memory → self.new ≡ record self.old { calls = one_more self.old.calls } }
 
-        // Which calls fail, and what each leaves.
-        ensures calls { self.new.calls ≡ one_more self.old.calls }
-        ensures failing { self.new.failing ≡ self.old.failing }
-        ensures ok { OnOk result (IsNone (kept_at self.old.failing self.old.calls) × (self.new.faults ≡ self.old.faults)) }
-        ensures failed { IsErrOf result SinkFault.Failed
-            → (self.new.faults ≡ one_more self.old.faults) × IsSomeAnd (kept_at self.old.failing self.old.calls) (λ kept. self.new.bytes ≡ self.old.bytes ++ take kept piece.now) }
-        ensures unchanged { IsErrOf result SinkFault.Memory → self.new.faults ≡ self.old.faults }
+        // What each sink promises, where these don't say it.
+        ensures prefix { OnErr result (AppendsPart (Some self.old.bytes) (Some self.new.bytes) piece.now) }
+        ensures cause { HasSinkCause self.old.faults self.new.faults result }
     {
         let kept = kept_bytes(&self.failing, self.calls);
         self.calls = self.calls.saturating_add(1);

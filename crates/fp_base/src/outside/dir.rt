@@ -18,15 +18,6 @@ pub enum DirFault {
     Memory,
 }
 
-/// A call on a [`ClassDir`], with its path.
-#[derive(Debug, Drop)]
-pub enum DirCall {
-    /// A call of [`ClassDir::list`].
-    Listing(String),
-    /// A call of [`ClassDir::read`].
-    Reading(String),
-}
-
 /// Directories with class files below them. An implementation may tell its files: then its answers are theirs.
 /// No call changes them.
 pub trait ClassDir {
