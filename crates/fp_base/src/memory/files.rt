@@ -30,7 +30,11 @@ pub fn contents_at<'a>(files: &'a [(String, Vec<u8>)], path: &str) -> Option<&'a
 }
 
 /// The paths of the class files below a directory, in the files' order.
-pub fn class_paths(alloc: Global, files: &[(String, Vec<u8>)], dir: &str) -> Result<Vec<String>, AllocError>
+pub fn class_paths(
+    alloc: Global,
+    files: &[(String, Vec<u8>)],
+    dir: &str,
+) -> Result<Vec<String>, AllocError>
     ensures { IfOk result (λ paths. spec.texts paths.items ≡ spec.class_paths (spec.files_of files.now) dir.now) }
 {
     let mut paths = Vec::new(alloc);

@@ -76,7 +76,11 @@ fn first_part(piece: &[u8], most: u32) -> &[u8]
     ensures { result.now ≡ take most piece.now }
 {
     let most = most as usize;
-    if piece.len() <= most { piece } else { &piece[..most] }
+    if piece.len() <= most {
+        piece
+    } else {
+        &piece[..most]
+    }
 }
 
 impl Sink for MemSink {
@@ -104,7 +108,11 @@ impl Sink for MemSink {
                 Err(_) => Err(SinkFault::Memory),
             };
         };
-        if self.bytes.extend_from_slice(first_part(piece, kept)).is_err() {
+        if self
+            .bytes
+            .extend_from_slice(first_part(piece, kept))
+            .is_err()
+        {
             return Err(SinkFault::Memory);
         }
         self.faults = self.faults.saturating_add(1);
