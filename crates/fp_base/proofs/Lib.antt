@@ -1,2 +1,5 @@
-pub mod NameLemmas
 mod NameSetLemmas
+pub mod CallLemmas
+pub mod FileLemmas
+pub mod NameLemmas
+pub mod SinkLemmas
