@@ -4,5 +4,5 @@
 mod escape;
 mod names;
 
-pub use escape::{escape_name, escape_text};
+pub use escape::{escape_name, escape_text, law_escaped_name, law_escaped_text};
 pub use names::{MAX_NAMES, NameFault, Names};

@@ -72,10 +72,8 @@ impl Names {
         ensures distinct { AreDistinct self.now }
         ensures within_limit { length self.now ≤ MAX_NAMES }
     {
-        match self.set.get_index_of(text) {
-            Some(index) => Some(index as u32),
-            None => None,
-        }
+        let index = self.set.get_index_of(text)?;
+        Some(index as u32)
     }
 
     /// The name with the number `id`, if the number was given. Takes no memory.
@@ -84,10 +82,8 @@ impl Names {
         ensures distinct { AreDistinct self.now }
         ensures within_limit { length self.now ≤ MAX_NAMES }
     {
-        match self.set.get_index(id as usize) {
-            Some(name) => Some(name.as_slice()),
-            None => None,
-        }
+        let name = self.set.get_index(id as usize)?;
+        Some(name.as_slice())
     }
 
     /// The number of `text`, which is the next one if it had none.
@@ -128,4 +124,22 @@ fn add_new(set: &mut IndexSet<Vec<u8>>, alloc: Global, text: &[u8]) -> Result<()
     let copy = Vec::from_slice(alloc, text)?;
     set.insert(copy)?;
     Ok(())
+}
+
+#[cfg(test)]
+mod tests {
+    use super::*;
+
+    #[test]
+    fn a_name_keeps_its_number(rt: HostRuntime) {
+        let mut names = Names::new(rt.alloc());
+        assert_eq!(rt; names.intern(rt.alloc(), b"java/lang/Object"), Ok(0));
+        assert_eq!(rt; names.intern(rt.alloc(), b"main"), Ok(1));
+        assert_eq!(rt; names.intern(rt.alloc(), b"java/lang/Object"), Ok(0));
+        assert_eq!(rt; names.len(), 2);
+        assert_eq!(rt; names.text(1), Some(b"main".as_slice()));
+        assert_eq!(rt; names.text(2), None);
+        assert_eq!(rt; names.find(b"main"), Some(1));
+        assert_eq!(rt; names.find(b"mai"), None);
+    }
 }
