@@ -3,7 +3,7 @@ use Rattle.std.proofs.Common.{◌⊎◌, ◌≡◌, ◌≢◌, ℕ, ◌/◌, ◌
 use Rattle.std.proofs.lemmas.Bool.Decides.{nat_tests}
 use Rattle.std.proofs.lemmas.List.Elements.{All-head, All-tail, All-nil, All-cons, All-append}
 use Rattle.std.specs.Prelude.{codes, All}
-use Rattle.fp_base.specs.Escape.{hex_digit, is_plain, escaped_by, escaped_text, escaped_name, IsTextByte, IsNameByte}
+use Rattle.fp_base.specs.Escape.{hex_digit, is_plain, escaped_by, escaped_text, escaped_name, AreBytes, IsTextByte, IsNameByte}
 
 -- ---- escaping loses nothing
 
@@ -45,7 +45,7 @@ written_some true x xs e = cc
 written_some false x xs e = cc
 
 -- where a backslash is reserved, texts that are escaped alike are equal
-same_text : (reserved : List ℕ) → is_plain reserved 92 ≡ false → (a b : List ℕ) → All (λ byte. byte < 256) a → All (λ byte. byte < 256) b → escaped_by reserved a ≡ escaped_by reserved b → a ≡ b
+same_text : (reserved : List ℕ) → is_plain reserved 92 ≡ false → (a b : List ℕ) → AreBytes a → AreBytes b → escaped_by reserved a ≡ escaped_by reserved b → a ≡ b
 unfolding written
 same_text reserved slash [] [] la lb e = refl
 same_text reserved slash [] (y ∷ ys) la lb e = absurd (written_some (is_plain reserved y) y (escaped_by reserved ys) (sym e))
@@ -58,11 +58,11 @@ same_text reserved slash (x ∷ xs) (y ∷ ys) la lb e =
     let head : x ≡ y = first.0 in
     cc
 
-pub same_escaped_text : (a b : List ℕ) → All (λ byte. byte < 256) a → All (λ byte. byte < 256) b → escaped_text a ≡ escaped_text b → a ≡ b
+pub same_escaped_text : (a b : List ℕ) → AreBytes a → AreBytes b → escaped_text a ≡ escaped_text b → a ≡ b
 unfolding escaped_text
 same_escaped_text a b la lb e = same_text (codes "\\,") refl a b la lb e
 
-pub same_escaped_name : (a b : List ℕ) → All (λ byte. byte < 256) a → All (λ byte. byte < 256) b → escaped_name a ≡ escaped_name b → a ≡ b
+pub same_escaped_name : (a b : List ℕ) → AreBytes a → AreBytes b → escaped_name a ≡ escaped_name b → a ≡ b
 unfolding escaped_name
 same_escaped_name a b la lb e = same_text (codes "\\,.(:") refl a b la lb e
 
@@ -82,7 +82,7 @@ all_written P false x plain slash letter high low =
     (All-cons P (hex_digit (x % 16)) [] low (All-nil P))))
 
 -- what holds of plain bytes, of `\x` and of digits holds of each byte of an escaped text
-all_escaped : (P : ℕ → Type 0) (reserved : List ℕ) → ((x : ℕ) → is_plain reserved x ≡ true → P x) → P 92 → P 120 → ((value : ℕ) → value < 16 → P (hex_digit value)) → (text : List ℕ) → All (λ byte. byte < 256) text → All P (escaped_by reserved text)
+all_escaped : (P : ℕ → Type 0) (reserved : List ℕ) → ((x : ℕ) → is_plain reserved x ≡ true → P x) → P 92 → P 120 → ((value : ℕ) → value < 16 → P (hex_digit value)) → (text : List ℕ) → AreBytes text → All P (escaped_by reserved text)
 unfolding written
 all_escaped P reserved plain slash letter digit [] bytes = All-nil P
 all_escaped P reserved plain slash letter digit (x ∷ xs) bytes =
@@ -106,12 +106,14 @@ backslash = grind arith
 letter_x : IsNameByte 120
 letter_x = search arith
 
-pub escaped_text-bytes : (text : List ℕ) → All (λ byte. byte < 256) text → All IsTextByte (escaped_text text)
+pub escaped_text-bytes : (text : List ℕ) → AreBytes text → All IsTextByte (escaped_text text)
 unfolding escaped_text
 escaped_text-bytes text bytes = all_escaped IsTextByte (codes "\\,") text_byte_plain backslash.in_text letter_x.in_text (λ v small. (name_byte_digit v small).in_text) text bytes
 
-pub escaped_name-bytes : (name : List ℕ) → All (λ byte. byte < 256) name → All IsNameByte (escaped_name name)
+pub escaped_name-bytes : (name : List ℕ) → AreBytes name → All IsNameByte (escaped_name name)
 unfolding escaped_name
 escaped_name-bytes name bytes = all_escaped IsNameByte (codes "\\,.(:") name_byte_plain backslash letter_x name_byte_digit name bytes
 
-pub ruleset laws = (same_escaped_text, same_escaped_name, escaped_text-bytes, escaped_name-bytes)
+pub ruleset text_laws = (same_escaped_text, escaped_text-bytes)
+
+pub ruleset name_laws = (same_escaped_name, escaped_name-bytes)

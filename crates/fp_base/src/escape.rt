@@ -1,6 +1,6 @@
 //! Byte strings written in printable ASCII, so that different strings are written differently.
 ghost use Rattle.std.specs.Prelude.{◌≡◌, ◌<◌, List, ℕ, ◌++◌, All, OnOk, OnErr};
-ghost use Rattle.fp_base.specs.Escape.{is_plain, hex_digit, escaped_byte, escaped_by, escaped_text, escaped_name, IsTextByte, IsNameByte};
+ghost use Rattle.fp_base.specs.Escape.{is_plain, hex_digit, escaped_byte, escaped_by, escaped_text, escaped_name, AreBytes, IsTextByte, IsNameByte};
 
 use std::alloc::AllocError;
 
@@ -44,7 +44,8 @@ fn append_byte(reserved: &[u8], byte: u8, to: &mut Vec<u8>) -> Result<(), AllocE
     ensures err { OnErr result (to.new.items ≡ to.old.items) }
 {
     if stays_plain(reserved, byte) {
-        to.extend_from_slice(&[byte])
+        to.push(byte)?;
+        Ok(())
     } else {
         to.extend_from_slice(&[
             b'\\',
@@ -73,17 +74,17 @@ fn hex_digit_of(value: u8) -> u8
 }
 
 /// Two laws: no two byte strings have one escaped text, and an escaped text has no comma and only printable bytes but space.
-#[tactic(auto, using(crate::proofs::EscapeLemmas::laws))]
+#[tactic(auto, using(crate::proofs::EscapeLemmas::text_laws))]
 pub fn law_escaped_text()
-    ensures tells { (a b : List ℕ) → All (λ byte. byte < 256) a → All (λ byte. byte < 256) b → escaped_text a ≡ escaped_text b → a ≡ b }
-    ensures bytes { (text : List ℕ) → All (λ byte. byte < 256) text → All IsTextByte (escaped_text text) }
+    ensures tells { (a b : List ℕ) → AreBytes a → AreBytes b → escaped_text a ≡ escaped_text b → a ≡ b }
+    ensures bytes { (text : List ℕ) → AreBytes text → All IsTextByte (escaped_text text) }
 {}
 
 /// Two laws: no two byte strings have one escaped name, and an escaped name has the bytes of an escaped text but `.`, `(` and `:`.
-#[tactic(auto, using(crate::proofs::EscapeLemmas::laws))]
+#[tactic(auto, using(crate::proofs::EscapeLemmas::name_laws))]
 pub fn law_escaped_name()
-    ensures tells { (a b : List ℕ) → All (λ byte. byte < 256) a → All (λ byte. byte < 256) b → escaped_name a ≡ escaped_name b → a ≡ b }
-    ensures bytes { (name : List ℕ) → All (λ byte. byte < 256) name → All IsNameByte (escaped_name name) }
+    ensures tells { (a b : List ℕ) → AreBytes a → AreBytes b → escaped_name a ≡ escaped_name b → a ≡ b }
+    ensures bytes { (name : List ℕ) → AreBytes name → All IsNameByte (escaped_name name) }
 {}
 
 #[cfg(test)]

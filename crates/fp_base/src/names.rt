@@ -21,7 +21,7 @@ pub enum NameFault {
 /// The names of a program, numbered from 0 in the order in which they were first met.
 ///
 /// A name is any byte string. It keeps its number for as long as the table lives, and no two numbers have one name.
-#[derive(Drop)]
+#[derive(Debug, Drop)]
 pub struct Names {
     set: IndexSet<Vec<u8>>,
 }
@@ -95,7 +95,8 @@ impl Names {
         ensures number { IfOk result (λ id. slice_get self.new id ≡ Some text.now) }
 
         ensures known { has_name self.old text.now ≡ true → IsOk result }
-        ensures full { IsErrOf result NameFault.Full ↔ (has_name self.old text.now ≡ false) × (length self.old ≡ MAX_NAMES) }
+        ensures full { IsErrOf result NameFault.Full
+            ↔ (has_name self.old text.now ≡ false) × (length self.old ≡ MAX_NAMES) }
         ensures err { OnErr result (self.new ≡ self.old) }
 
         ensures distinct { AreDistinct self.new }
