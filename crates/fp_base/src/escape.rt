@@ -76,14 +76,14 @@ fn hex_digit_of(value: u8) -> u8
 /// Two laws: no two byte strings have one escaped text, and an escaped text has no comma and only printable bytes but space.
 #[tactic(auto, using(crate::proofs::EscapeLemmas::text_laws))]
 pub fn law_escaped_text()
-    ensures tells { (a b : List ℕ) → AreBytes a → AreBytes b → escaped_text a ≡ escaped_text b → a ≡ b }
+    ensures injective { (a b : List ℕ) → AreBytes a → AreBytes b → escaped_text a ≡ escaped_text b → a ≡ b }
     ensures bytes { (text : List ℕ) → AreBytes text → All IsTextByte (escaped_text text) }
 {}
 
 /// Two laws: no two byte strings have one escaped name, and an escaped name has the bytes of an escaped text but `.`, `(` and `:`.
 #[tactic(auto, using(crate::proofs::EscapeLemmas::name_laws))]
 pub fn law_escaped_name()
-    ensures tells { (a b : List ℕ) → AreBytes a → AreBytes b → escaped_name a ≡ escaped_name b → a ≡ b }
+    ensures injective { (a b : List ℕ) → AreBytes a → AreBytes b → escaped_name a ≡ escaped_name b → a ≡ b }
     ensures bytes { (name : List ℕ) → AreBytes name → All IsNameByte (escaped_name name) }
 {}
 
