@@ -1,3 +1,4 @@
 pub mod CallLemmas
 pub mod FileLemmas
+mod ResultLemmas
 pub mod SinkLemmas

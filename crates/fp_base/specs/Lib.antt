@@ -4,3 +4,4 @@ pub mod Counters
 pub mod Faults
 pub mod MemDir
 pub mod MemSink
+pub mod Host

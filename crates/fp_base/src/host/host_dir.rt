@@ -1,6 +1,8 @@
-ghost use Rattle.std.specs.Prelude.{◌≡◌, [], false, map, refl, IfOk};
-ghost use Rattle.fp_base.specs.Files.{texts};
-ghost use Rattle.fp_base.specs.Calls.{call_of};
+ghost use Rattle.std.specs.Prelude.{◌≡◌, [], ◌∷◌, ◌++◌, false, refl, IfOk, OnErr, IsErrOf};
+ghost use Rattle.std.specs.List.{AllPass};
+ghost use Rattle.fp_base.specs.Files.{is_class_file, texts};
+ghost use Rattle.fp_base.specs.Calls.{HasDirCause};
+ghost use Rattle.fp_base.specs.Calls.Call.{Listing, Reading};
 
 use crate::host::walk::{HostFault, class_files};
 use crate::outside::call::{DirCall, note_listing, note_reading};
@@ -8,6 +10,7 @@ use crate::outside::dir::{ClassDir, DirFault};
 use std::alloc::{AllocError, Global};
 use std::fs;
 use std::io::Read;
+use std::marker::Model;
 use std::rt::Files;
 
 /// How many bytes of a file a read gives at most.
@@ -21,11 +24,22 @@ pub struct HostDir<'a, R: Files> {
     failed: Vec<DirCall>,
 }
 
+impl<'a, R: Files> Model for HostDir<'a, R> {
+    ghost use Rattle.std.specs.Prelude.{map};
+    ghost use Rattle.fp_base.specs.Host.{HostDirState};
+    ghost use Rattle.fp_base.specs.Files.{texts};
+    ghost use Rattle.fp_base.specs.Calls.{call_of};
+
+    ghost Value = { HostDirState };
+
+    ghost view = { λ d. record { listed = texts d.listed.items; failed = map call_of d.failed.items } };
+}
+
 impl<'a, R: Files> HostDir<'a, R> {
     /// The files that the runtime reaches.
     pub fn new(alloc: Global, rt: &'a R) -> HostDir<'a, R>
-        ensures listed { ⟦<HostDir<'a, R> as ClassDir>⟧.listed result ≡ [] }
-        ensures failed { ⟦<HostDir<'a, R> as ClassDir>⟧.failed result ≡ [] }
+        ensures listed { result.listed ≡ [] }
+        ensures failed { result.failed ≡ [] }
     {
         HostDir {
             rt,
@@ -62,11 +76,21 @@ impl<'a, R: Files> ClassDir for HostDir<'a, R> {
 
     ghost apart = { λ _. refl };
 
-    ghost listed = { λ d. texts d.listed.items };
+    ghost listed = { λ d. d.listed };
 
-    ghost failed = { λ d. map call_of d.failed.items };
+    ghost failed = { λ d. d.failed };
 
-    fn list(&mut self, alloc: Global, path: &str) -> Result<Vec<String>, DirFault> {
+    fn list(&mut self, alloc: Global, path: &str) -> Result<Vec<String>, DirFault>
+        ensures listed { IfOk result (λ paths. self.new.listed ≡ texts paths.items) }
+        ensures kept { OnErr result (self.new.listed ≡ self.old.listed) }
+        ensures noted { IsErrOf result DirFault.Failed → self.new.failed ≡ self.old.failed ++ Listing path.now ∷ [] }
+        ensures not_noted { (IsErrOf result DirFault.Failed → ⊥) → self.new.failed ≡ self.old.failed }
+        ensures present { IsErrOf result DirFault.Absent → ⊥ }
+
+        // What each directory promises, where these don't say it.
+        ensures below { IfOk result (λ paths. AllPass (is_class_file path.now) (texts paths.items)) }
+        ensures cause { HasDirCause self.old.failed self.new.failed (Listing path.now) result }
+    {
         let found = match class_files(alloc, self.rt, path) {
             Ok(found) => found,
             Err(HostFault::Failed) => return Err(note_listing(alloc, &mut self.failed, path)),
@@ -79,7 +103,15 @@ impl<'a, R: Files> ClassDir for HostDir<'a, R> {
         Ok(found)
     }
 
-    fn read(&mut self, alloc: Global, path: &str) -> Result<Vec<u8>, DirFault> {
+    fn read(&mut self, alloc: Global, path: &str) -> Result<Vec<u8>, DirFault>
+        ensures listed { self.new.listed ≡ self.old.listed }
+        ensures noted { IsErrOf result DirFault.Failed → self.new.failed ≡ self.old.failed ++ Reading path.now ∷ [] }
+        ensures not_noted { (IsErrOf result DirFault.Failed → ⊥) → self.new.failed ≡ self.old.failed }
+        ensures present { IsErrOf result DirFault.Absent → ⊥ }
+
+        // What each directory promises, where these don't say it.
+        ensures cause { HasDirCause self.old.failed self.new.failed (Reading path.now) result }
+    {
         match first_bytes(alloc, self.rt, path) {
             Ok(bytes) => Ok(bytes),
             Err(HostFault::Failed) => Err(note_reading(alloc, &mut self.failed, path)),

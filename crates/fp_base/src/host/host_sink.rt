@@ -1,8 +1,10 @@
-ghost use Rattle.std.specs.Prelude.{◌≡◌, ◌+◌, ◌-◌, ◌^◌, ◌≤◌, None, OnOk, length};
+ghost use Rattle.std.specs.Prelude.{◌≡◌, None, OnOk, OnErr, IsErrOf};
 ghost use Rattle.fp_base.specs.Counters.{one_more};
+ghost use Rattle.fp_base.specs.Faults.{AppendsPart, HasSinkCause};
 
 use crate::outside::sink::{Sink, SinkFault};
 use std::io::{Error, ErrorKind};
+use std::marker::Model;
 use std::{io, str};
 
 /// The standard output or the standard error of the process. It tells nothing of what it has taken.
@@ -11,6 +13,14 @@ pub struct HostSink<'a, R: Print + Eprint> {
     rt: &'a R,
     stream: Stream,
     faults: u64,
+}
+
+impl<'a, R: Print + Eprint> Model for HostSink<'a, R> {
+    ghost use Rattle.fp_base.specs.Host.{HostSinkState};
+
+    ghost Value = { HostSinkState };
+
+    ghost view = { λ s. record { faults = s.faults } };
 }
 
 #[derive(Clone, Copy)]
@@ -22,7 +32,7 @@ enum Stream {
 impl<'a, R: Print + Eprint> HostSink<'a, R> {
     /// The standard output.
     pub fn output(rt: &'a R) -> HostSink<'a, R>
-        ensures { ⟦<HostSink<'a, R> as Sink>⟧.faults result ≡ 0 }
+        ensures { result.faults ≡ 0 }
     {
         HostSink {
             rt,
@@ -33,7 +43,7 @@ impl<'a, R: Print + Eprint> HostSink<'a, R> {
 
     /// The standard error, for texts: it takes no piece that isn't UTF-8.
     pub fn fault_output(rt: &'a R) -> HostSink<'a, R>
-        ensures { ⟦<HostSink<'a, R> as Sink>⟧.faults result ≡ 0 }
+        ensures { result.faults ≡ 0 }
     {
         HostSink {
             rt,
@@ -69,7 +79,15 @@ impl<'a, R: Print + Eprint> Sink for HostSink<'a, R> {
 
     ghost faults = { λ s. s.faults };
 
-    fn put(&mut self, piece: &[u8]) -> Result<(), SinkFault> {
+    fn put(&mut self, piece: &[u8]) -> Result<(), SinkFault>
+        ensures ok { OnOk result (self.new ≡ self.old) }
+        ensures err { OnErr result (self.new.faults ≡ one_more self.old.faults) }
+        ensures memory { IsErrOf result SinkFault.Memory → ⊥ }
+
+        // What each sink promises, where these don't say it.
+        ensures prefix { OnErr result (AppendsPart None None piece.now) }
+        ensures cause { HasSinkCause self.old.faults self.new.faults result }
+    {
         let written = match self.stream {
             Stream::Output => write_output(self.rt, piece),
             Stream::FaultOutput => print_fault(self.rt, piece),
