@@ -119,3 +119,65 @@ impl<'a, R: Files> ClassDir for HostDir<'a, R> {
         }
     }
 }
+
+#[cfg(test)]
+mod tests {
+    use super::*;
+    use std::os::unix::fs::symlink;
+    use std::test::Fail;
+
+    const FOLDER: &str = "host_dir_test";
+
+    fn make_folder(rt: &HostRuntime) -> Result<(), Fail> {
+        let _ = fs::remove_dir_all(rt, FOLDER);
+        fs::create_dir_all(rt, "host_dir_test/e/f")?;
+        fs::write(rt, "host_dir_test/A.class", "a")?;
+        fs::write(rt, "host_dir_test/note.txt", "b")?;
+        fs::write(rt, "host_dir_test/e/B.class", "c")?;
+        fs::write(rt, "host_dir_test/e/f/C.class", "d")?;
+        symlink(rt, "e", "host_dir_test/link")?;
+        let long = vec![in rt.alloc(); 0u8; 4_194_306]?;
+        fs::write(rt, "host_dir_test/long.class", long.as_slice())?;
+        Ok(())
+    }
+
+    #[test]
+    fn real_files_are_listed_and_read(rt: HostRuntime) -> Result<(), Fail> {
+        let alloc = rt.alloc();
+        make_folder(&rt)?;
+        let mut dir = HostDir::new(alloc, &rt);
+
+        let mut paths = dir.list(alloc, FOLDER)?;
+        paths.sort()?;
+        let expected = "host_dir_test/A.class host_dir_test/e/B.class \
+            host_dir_test/e/f/C.class host_dir_test/long.class";
+        assert_eq!(rt; paths.join(alloc, " ")?.as_str(), expected);
+        assert_eq!(rt;
+            dir.read(alloc, "host_dir_test/e/B.class")?.as_slice(),
+            b"c".as_slice()
+        );
+        assert_eq!(rt;
+            dir.read(alloc, "host_dir_test/long.class")?.len(),
+            4_194_305
+        );
+        assert!(rt; dir.failed.is_empty());
+
+        // A directory that isn't there, a file that isn't there, and a directory in place of a file.
+        assert_eq!(rt;
+            dir.list(alloc, "host_dir_test/g").err(),
+            Some(DirFault::Failed)
+        );
+        assert_eq!(rt;
+            dir.read(alloc, "host_dir_test/Z.class").err(),
+            Some(DirFault::Failed)
+        );
+        assert_eq!(rt;
+            dir.read(alloc, "host_dir_test/e").err(),
+            Some(DirFault::Failed)
+        );
+        assert_eq!(rt; dir.listed.len(), 4);
+        assert_eq!(rt; dir.failed.len(), 3);
+        fs::remove_dir_all(&rt, FOLDER)?;
+        Ok(())
+    }
+}

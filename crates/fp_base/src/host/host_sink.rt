@@ -99,3 +99,19 @@ impl<'a, R: Print + Eprint> Sink for HostSink<'a, R> {
         Ok(())
     }
 }
+
+#[cfg(test)]
+mod tests {
+    use super::*;
+
+    #[test]
+    fn both_streams_take_texts(rt: HostRuntime) {
+        let mut output = HostSink::output(&rt);
+        let mut fault_output = HostSink::fault_output(&rt);
+        assert_eq!(rt; output.put(b"output\n"), Ok(()));
+        assert_eq!(rt; output.put(b""), Ok(()));
+        assert_eq!(rt; fault_output.put(b"fault output\n"), Ok(()));
+        assert_eq!(rt; fault_output.put(&[0xff]), Err(SinkFault::Failed));
+        assert_eq!(rt; (output.faults, fault_output.faults), (0, 1));
+    }
+}
