@@ -3,4 +3,5 @@ pub mod EscapeLemmas
 pub mod FileLemmas
 pub mod NameLemmas
 mod NameSetLemmas
+mod ResultLemmas
 pub mod SinkLemmas

@@ -45,3 +45,20 @@ pub fn class_paths(
     }
     Ok(paths)
 }
+
+#[cfg(test)]
+mod tests {
+    use super::*;
+    use std::test::Fail;
+
+    #[test]
+    fn a_path_that_stands_twice_is_told(rt: HostRuntime) -> Result<(), Fail> {
+        let alloc = rt.alloc();
+        let mut files = Vec::new(alloc);
+        for (path, distinct) in [("a", true), ("b", true), ("a", false)] {
+            files.push((String::from_str(alloc, path)?, Vec::new(alloc)))?;
+            assert_eq!(rt; has_distinct_paths(&files), distinct, "with {path}");
+        }
+        Ok(())
+    }
+}

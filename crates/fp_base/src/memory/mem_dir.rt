@@ -169,3 +169,66 @@ impl ClassDir for MemDir {
         }
     }
 }
+
+#[cfg(test)]
+mod tests {
+    use super::*;
+    use crate::memory::files::has_distinct_paths;
+    use std::process::Abort;
+    use std::str;
+    use std::test::Fail;
+
+    fn make_dir(rt: &impl Abort, alloc: Global, failing: Vec<u32>) -> Result<MemDir, Fail> {
+        let mut files = Vec::new(alloc);
+        for (path, text) in [
+            ("d/A.class", "a"),
+            ("d/note.txt", "b"),
+            ("d/e/B.class", "c"),
+            ("dd/C.class", "d"),
+        ] {
+            let path = String::from_str(alloc, path)?;
+            files.push((path, Vec::from_slice(alloc, text.as_bytes())?))?;
+        }
+        assert!(rt; has_distinct_paths(&files));
+        Ok(MemDir::new(alloc, files, failing))
+    }
+
+    #[test]
+    fn lists_the_class_files_below(rt: HostRuntime) -> Result<(), Fail> {
+        let alloc = rt.alloc();
+        let mut dir = make_dir(&rt, alloc, vec![in alloc; 1]?)?;
+        for (path, expected) in [
+            ("d", "d/A.class d/e/B.class"),
+            ("d", "Failed"),
+            ("d/e", "d/e/B.class"),
+            ("f", ""),
+        ] {
+            let answer = match dir.list(alloc, path) {
+                Ok(paths) => paths.join(alloc, " ")?,
+                Err(fault) => format!(in alloc; "{fault:?}")?,
+            };
+            assert_eq!(rt; answer.as_str(), expected, "at {path}");
+        }
+        Ok(())
+    }
+
+    #[test]
+    fn reads_told_files_alone(rt: HostRuntime) -> Result<(), Fail> {
+        let alloc = rt.alloc();
+        let mut dir = make_dir(&rt, alloc, vec![in alloc; 2, 3]?)?;
+        for (path, expected) in [
+            ("d/A.class", "a"),
+            ("d/Z.class", "Absent"),
+            ("d/A.class", "Failed"),
+            ("d/Z.class", "Failed"),
+            ("d/note.txt", "b"),
+        ] {
+            let answer = match dir.read(alloc, path) {
+                Ok(bytes) => String::from_str(alloc, str::from_utf8(&bytes)?)?,
+                Err(fault) => format!(in alloc; "{fault:?}")?,
+            };
+            assert_eq!(rt; answer.as_str(), expected, "at {path}");
+        }
+        Ok(())
+    }
+}

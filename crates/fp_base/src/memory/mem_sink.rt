@@ -119,3 +119,36 @@ impl Sink for MemSink {
         Err(SinkFault::Failed)
     }
 }
+
+#[cfg(test)]
+mod tests {
+    use super::*;
+    use std::test::Fail;
+
+    #[test]
+    fn failing_puts_keep_their_part(rt: HostRuntime) -> Result<(), Fail> {
+        let alloc = rt.alloc();
+        let failing = vec![in alloc; (1, 2), (3, 9)]?;
+        assert!(rt; has_distinct_calls(&failing));
+        let mut sink = MemSink::new(alloc, failing);
+        let puts: [(&str, Result<(), SinkFault>, &str); 5] = [
+            ("ab", Ok(()), "ab"),
+            ("cde", Err(SinkFault::Failed), "abcd"),
+            ("", Ok(()), "abcd"),
+            ("fg", Err(SinkFault::Failed), "abcdfg"),
+            ("h", Ok(()), "abcdfgh"),
+        ];
+        for (piece, answer, told) in puts {
+            assert_eq!(rt; sink.put(piece.as_bytes()), answer, "at {piece}");
+            assert_eq!(rt; sink.bytes(), told.as_bytes(), "after {piece}");
+        }
+        Ok(())
+    }
+
+    #[test]
+    fn calls_in_two_pairs_are_told(rt: HostRuntime) {
+        assert!(rt; has_distinct_calls(&[]));
+        assert!(rt; has_distinct_calls(&[(0, 1), (2, 1), (1, 1)]));
+        assert!(rt; !has_distinct_calls(&[(0, 1), (2, 1), (0, 2)]));
+    }
+}
