@@ -1,5 +1,8 @@
-ghost use Rattle.std.specs.Prelude.{◌≡◌, ◌+◌, ◌≤◌, ◌∷◌, ◌++◌, length, string_bytes, IfOk};
+ghost use Rattle.std.specs.Prelude.{◌≡◌, ◌↔◌, ◌+◌, ◌≤◌, ◌∷◌, ◌++◌, length, string_bytes, IfOk};
 ghost use Rattle.std.specs.List.{AllPass};
+ghost use Rattle.std.specs.IoError.{error_kind};
+ghost use Rattle.std.specs.declared.io.ErrorKind.TheVariants.{OutOfMemory};
+ghost use Rattle.fp_base.specs.declared.host.walk.HostFault.TheVariants.{Memory};
 ghost use Rattle.fp_base.specs.Files.{is_class_file as is_class_path, texts};
 ghost use Rattle.fp_base.specs.Host.{visits_left};
 
@@ -25,18 +28,24 @@ pub enum HostFault {
 }
 
 impl From<AllocError> for HostFault {
+    ghost from_gives = { λ _ fault. fault ≡ Memory };
+
     fn from(_: AllocError) -> HostFault {
         HostFault::Memory
     }
 }
 
 impl<T: Drop> From<AllocFailed<T>> for HostFault {
+    ghost from_gives = { λ _ fault. fault ≡ Memory };
+
     fn from(_: AllocFailed<T>) -> HostFault {
         HostFault::Memory
     }
 }
 
 impl From<io::Error> for HostFault {
+    ghost from_gives = { λ error fault. (fault ≡ Memory) ↔ (error_kind error ≡ OutOfMemory) };
+
     fn from(error: io::Error) -> HostFault {
         if error.kind() == ErrorKind::OutOfMemory {
             HostFault::Memory
