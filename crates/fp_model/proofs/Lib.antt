@@ -1,1 +1,5 @@
+pub mod ArrayTypes
+pub mod ElementTexts
+pub mod EndedNames
 pub mod Many
+pub mod Stops

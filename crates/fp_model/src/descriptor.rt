@@ -1,6 +1,13 @@
+mod fault;
+mod place;
+mod reading;
+
 ghost use Rattle.std.specs.Prelude.{◌≡◌, ◌≤◌, length, codes};
 ghost use Rattle.std.specs.List.{list_all};
 ghost use Rattle.fp_model.specs.Descriptor.{dimensions, is_ended_name, is_element, is_field_descriptor, is_name_byte, is_among};
+
+pub use fault::DescrFault;
+pub use reading::read_kind;
 
 /// The most dimensions that an array type may have (JVMS SE 21 section 4.4.1).
 const MAX_DIMENSIONS: usize = 255;
