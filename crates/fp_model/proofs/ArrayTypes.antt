@@ -54,10 +54,10 @@ element_primitive c ne passes = not_class c [] ne ∙ and_from _ true passes ref
 dimensions-bracket : (rest : List ℕ) → dimensions (91 ∷ rest) ≡ suc (dimensions rest)
 dimensions-bracket rest = ap length (take_while-cons (λ c. c == 91) 91 rest)
 
-dimensions-other : (c : ℕ) (rest : List ℕ) → (c == 91) ≡ false → dimensions (c ∷ rest) ≡ 0
+pub dimensions-other : (c : ℕ) (rest : List ℕ) → (c == 91) ≡ false → dimensions (c ∷ rest) ≡ 0
 dimensions-other c rest ne = ap length (take_while-cons (λ c. c == 91) c rest ∙ ap (λ b. cond b (c ∷ take_while (λ c. c == 91) rest) []) ne)
 
-dimensions-replicate : (n : ℕ) (rest : List ℕ) → dimensions (replicate n 91 ++ rest) ≡ n + dimensions rest
+pub dimensions-replicate : (n : ℕ) (rest : List ℕ) → dimensions (replicate n 91 ++ rest) ≡ n + dimensions rest
 dimensions-replicate zero rest = omega arith
 dimensions-replicate (suc n) rest =
     let more : dimensions (replicate n 91 ++ rest) ≡ n + dimensions rest = dimensions-replicate n rest in

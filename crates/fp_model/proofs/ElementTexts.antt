@@ -15,7 +15,7 @@ use Rattle.std.proofs.Math.Seq.{take-append_seam}
 
 -- ---- a name and its ';'
 
-name_parts : (front : List ℕ) (last : ℕ) → is_ended_name (front ++ last ∷ []) ≡ true → (0 < length front) × (last ≡ 59)
+pub name_parts : (front : List ℕ) (last : ℕ) → is_ended_name (front ++ last ∷ []) ≡ true → (0 < length front) × (last ≡ 59)
 name_parts front last passes =
     let both : (nat_lt 0 (length front) && ((last == 59) && list_all is_name_byte front)) ≡ true = sym (is_ended_name-push front last) ∙ passes in
     let parts = and_parts (nat_lt 0 (length front)) ((last == 59) && list_all is_name_byte front) both in

@@ -1,5 +1,6 @@
 -- Where texts that pass a test go on, and where they stop.
 use Rattle.std.proofs.Common.{◌≡◌, ℕ, zero, suc, ◌+◌, ◌<◌, ◌≤◌, inl, inr, Bool, true, false, List, [], ◌∷◌, ◌++◌, length, take, drop, refl, sym, ap, ◌∙◌, subst, arith, length-append, add-one}
+use Rattle.std.specs.Prelude.{Option, Some, None, IfSome, IfNone, is_some, not}
 use Rattle.std.proofs.lemmas.List.{append_assoc, take-append-drop}
 use Rattle.std.proofs.lemmas.Grind.{common_steps}
 use Rattle.std.proofs.lemmas.List.Folds.{length-prefix_len}
@@ -28,9 +29,16 @@ StopsAt-end test text goes fails = record {
   whole = λ e. fails;
 }
 
--- a text that stops doesn't pass
+-- a text that stops does not pass
 pub StopsAt-fails : (test : List ℕ → Bool) (text : List ℕ) (at : ℕ) → StopsAt test text at → test text ≡ false
 StopsAt-fails test text at stops = elim (cases_lt at (length text)) [
   | inl lt ↦ false_from_ne_true (test text) (λ passes. stops.after lt (drop (at + 1) text, ap test (take-append-drop (at + 1) text) ∙ passes))
   | inr ge ↦ let within : at ≤ length text = stops.within in stops.whole (omega arith)
 ]
+
+-- a text passes where it stops nowhere
+pub passes_or_stops : (test : List ℕ → Bool) (text : List ℕ) (place : Option ℕ) (passed : Bool) → IfNone place (test text ≡ true) → IfSome place (StopsAt test text) → is_some place ≡ not passed → passed ≡ test text
+passes_or_stops test text None true passes stops is = sym passes
+passes_or_stops test text None false passes stops is = absurd cc
+passes_or_stops test text (Some at) true passes stops is = absurd cc
+passes_or_stops test text (Some at) false passes stops is = sym (StopsAt-fails test text at stops)

@@ -116,6 +116,10 @@ pub record IsKindOf (names : List (List ℕ)) (text : List ℕ) (k : Kind) : Typ
   pub written : kind_text names k ≡ text
   pub kind : IsTrue (is_kind names k)
 
+-- a text says at most one kind
+abbrev pub SaysOneKind : List (List ℕ) → List ℕ → Type 0
+SaysOneKind names text = (a b : Kind) → IsKindOf names text a → IsKindOf names text b → a ≡ b
+
 -- the text of a method's result
 abbrev pub result_text : List (List ℕ) → Option Kind → List ℕ
 result_text names None = codes "V"

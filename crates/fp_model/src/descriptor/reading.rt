@@ -1,10 +1,10 @@
-ghost use Rattle.std.specs.Prelude.{◌≡◌, ◌+◌, ◌^◌, ◌<◌, ◌↔◌, ℕ, List, length, false, true, IfOk, OnOk, OnErr, IsErrAnd, IsErrOf, IsTrue};
-ghost use Rattle.fp_base.specs.Names.{with_names};
-ghost use Rattle.fp_model.specs.Descriptor.{dimensions, element_names, element_text, is_element, is_field_descriptor, kind_names, IsBadAt, IsKindOf, LacksRoom, TellsPlace};
+ghost use Rattle.std.specs.Prelude.{◌≡◌, ◌+◌, ◌^◌, ◌<◌, ◌↔◌, ℕ, List, length, false, true, IfOk, OnOk, OnErr, IsErrAnd, IsErrOf, IsOk, IsTrue};
+ghost use Rattle.std.specs.List.{list_all};
+ghost use Rattle.fp_base.specs.Names.{has_name, with_names, AreDistinct};
+ghost use Rattle.fp_model.specs.Descriptor.{dimensions, element_names, element_text, is_element, is_field_descriptor, kind_names, IsBadAt, IsKindOf, LacksRoom, SaysOneKind, TellsPlace};
 
-use super::count_dimensions;
 use super::fault::DescrFault;
-use super::place::bad_place;
+use super::place::{bad_place, count_dimensions};
 use crate::kind::{Elem, Kind};
 use fp_base::Names;
 use std::alloc::Global;
@@ -20,10 +20,12 @@ pub fn read_kind(alloc: Global, text: &[u8], names: &mut Names) -> Result<Kind, 
     ensures bad { is_field_descriptor text.now ≡ false → IsErrAnd result (TellsPlace text.now) }
     ensures bad_at { (at : ℕ) → IsErrOf result (DescrFault.Bad at) → IsBadAt text.now at }
     ensures full { IsErrOf result DescrFault.Full ↔ (is_field_descriptor text.now ≡ true) × LacksRoom names.old (kind_names text.now) }
+    // Only a new name takes memory.
+    ensures known { is_field_descriptor text.now ≡ true → list_all (has_name names.old) (kind_names text.now) ≡ true → IsOk result }
     ensures err { OnErr result (names.new ≡ names.old) }
 {
-    if let Some(at) = bad_place(text) {
-        return Err(DescrFault::Bad { at });
+    if let Some(place) = bad_place(text) {
+        return Err(DescrFault::Bad { at: place as u32 });
     }
     let dims = count_dimensions(text);
     let element = read_element(alloc, &text[dims..], names)?;
@@ -43,6 +45,7 @@ fn read_element(alloc: Global, text: &[u8], names: &mut Names) -> Result<Elem, D
 
     ensures bad { (at : ℕ) → ¬ IsErrOf result (DescrFault.Bad at) }
     ensures full { IsErrOf result DescrFault.Full ↔ LacksRoom names.old (element_names text.now) }
+    ensures known { list_all (has_name names.old) (element_names text.now) ≡ true → IsOk result }
     ensures err { OnErr result (names.new ≡ names.old) }
 {
     if text[0] == b'L' {
@@ -64,4 +67,11 @@ fn kind_of(element: Elem) -> Kind
         Elem::Prim(b'D') => Kind::Double,
         Elem::Prim(letter) => Kind::Int(letter),
     }
+}
+
+/// A law: over a table of distinct names a text says at most one kind.
+#[tactic(auto, using(crate::proofs::OneKind::one_kind))]
+pub fn law_one_kind()
+    ensures { (names : List (List ℕ)) (text : List ℕ) → AreDistinct names → SaysOneKind names text }
+{
 }

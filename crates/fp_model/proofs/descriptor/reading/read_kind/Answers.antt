@@ -9,8 +9,12 @@ use Rattle.fp_model.proofs.descriptor.reading.read_kind.Goals as goal
 pub returns-in-Some-clause-full : goal.returns-in-Some-clause-full
 returns-in-Some-clause-full c = (
   λ e. absurd cc,
-  λ h. absurd (both_ways (is_field_descriptor c.args.text.now) (StopsAt-fails is_field_descriptor c.args.text.now c.in-Some.at c.in-Some.ensures.some) h.0),
+  λ h. absurd (both_ways (is_field_descriptor c.args.text.now) (StopsAt-fails is_field_descriptor c.args.text.now c.in-Some.place c.in-Some.ensures.some) h.0),
 )
+
+pub returns-in-Some-clause-known : goal.returns-in-Some-clause-known
+returns-in-Some-clause-known c =
+    λ passes _. absurd (both_ways (is_field_descriptor c.args.text.now) (StopsAt-fails is_field_descriptor c.args.text.now c.in-Some.place c.in-Some.ensures.some) passes)
 
 pub returns-then-dims-eq0-clause-kind : goal.returns-then-dims-eq0-clause-kind
 returns-then-dims-eq0-clause-kind c =
