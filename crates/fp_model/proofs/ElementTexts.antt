@@ -1,9 +1,8 @@
 -- What the text of an element's type has: its letter, or its class name.
-use Rattle.std.proofs.Common.{◌≡◌, ◌≢◌, ℕ, suc, ◌-◌, ◌<◌, ◌≤◌, true, ◌&&◌, cond, List, [], ◌∷◌, ◌++◌, length, take, drop, get_or, replicate, codes, refl, sym, ap, ◌∙◌, arith, length-append}
-use Rattle.std.specs.Prelude.{◌==◌, nat_lt, nat_le}
+use Rattle.std.proofs.Common.{◌≡◌, ◌≢◌, ℕ, suc, ◌-◌, ◌<◌, true, ◌&&◌, cond, List, [], ◌∷◌, ◌++◌, length, take, drop, get_or, replicate, codes, refl, sym, ap, ◌∙◌, arith, length-append}
+use Rattle.std.specs.Prelude.{◌==◌, nat_lt}
 use Rattle.std.specs.List.{list_all}
 use Rattle.std.proofs.lemmas.Bool.{and_parts, and_from, eqb-true, ne_eqb, ltb-true, lt-ltb}
-use Rattle.std.proofs.lemmas.Bool.Decides.{nat_tests}
 use Rattle.fp_model.specs.declared.kind.Elem.{Elem}
 use Rattle.fp_model.specs.declared.kind.Kind.TheVariants as kind
 use Rattle.fp_model.specs.Descriptor.{is_among, is_element, is_ended_name, is_field_descriptor, is_name_byte, dimensions, element_names, element_text, kind_text, IsKindOf}
@@ -18,9 +17,6 @@ name_parts front last passes =
     let both : (nat_lt 0 (length front) && ((last == 59) && list_all is_name_byte front)) ≡ true = sym (is_ended_name-push front last) ∙ passes in
     let parts = and_parts (nat_lt 0 (length front)) ((last == 59) && list_all is_name_byte front) both in
     (ltb-true 0 (length front) parts.0, eqb-true last 59 (and_parts (last == 59) (list_all is_name_byte front) parts.1).0)
-
-name_of : List ℕ → List ℕ
-name_of text = take (length text - 1) text
 
 -- the name before the ';'
 ended : (text : List ℕ) → is_ended_name text ≡ true → (1 < length text) × (take (length text - 1) text ++ 59 ∷ [] ≡ text)
@@ -80,16 +76,6 @@ letter_names (c ∷ rest) ne = ap (λ b. cond b (take (length rest - 1) rest ∷
 pub ruleset element_parts = (element_some, class_length, class_text, class_names, letter_text, letter_names)
 
 -- ---- a kind
-
--- the type of an array's elements, in a field descriptor
-pub element_of_field : (text : List ℕ) (dims : ℕ) → dims ≡ dimensions text → is_field_descriptor text ≡ true → is_element (drop dims text) ≡ true
-element_of_field text dims count passes =
-    ap (λ n. is_element (drop n text)) count ∙ (and_parts (nat_le (dimensions text) 255) (is_element (drop (dimensions text) text)) passes).1
-
-pub dims_of_field : (text : List ℕ) (dims : ℕ) → dims ≡ dimensions text → is_field_descriptor text ≡ true → dims ≤ 255
-dims_of_field text dims count passes =
-    let within = (and_parts (nat_le (dimensions text) 255) (is_element (drop (dimensions text) text)) passes).0 in
-    grind (arith, nat_tests)
 
 pub IsKindOf-array : (names : List (List ℕ)) (text : List ℕ) (dims : ℕ) (element : Elem) → 0 < dims → dims ≡ dimensions text → is_field_descriptor text ≡ true → element_text names element ≡ drop dims text → IsKindOf names text (kind.Array dims element)
 IsKindOf-array names text dims element some count passes is =

@@ -1,7 +1,7 @@
-ghost use Rattle.std.specs.Prelude.{◌≡◌, ◌+◌, ◌^◌, ◌<◌, ◌↔◌, ℕ, List, length, false, true, IfOk, OnOk, OnErr, IsErrAnd, IsErrOf, IsOk, IsTrue};
+ghost use Rattle.std.specs.Prelude.{◌≡◌, ◌^◌, ◌<◌, ◌↔◌, ℕ, List, length, false, true, IfOk, OnOk, OnErr, IsErrAnd, IsErrOf, IsOk};
 ghost use Rattle.std.specs.List.{list_all};
 ghost use Rattle.fp_base.specs.Names.{has_name, with_names, AreDistinct};
-ghost use Rattle.fp_model.specs.Descriptor.{dimensions, element_names, element_text, is_element, is_field_descriptor, kind_names, IsBadAt, IsKindOf, LacksRoom, SaysOneKind, TellsPlace};
+ghost use Rattle.fp_model.specs.Descriptor.{element_names, element_text, is_element, is_field_descriptor, kind_names, IsBadAt, IsKindOf, LacksRoom, SaysOneKind, TellsPlace};
 
 use super::fault::DescrFault;
 use super::place::{bad_place, count_dimensions};
@@ -19,9 +19,12 @@ pub fn read_kind(alloc: Global, text: &[u8], names: &mut Names) -> Result<Kind, 
 
     ensures bad { is_field_descriptor text.now ≡ false → IsErrAnd result (TellsPlace text.now) }
     ensures bad_at { (at : ℕ) → IsErrOf result (DescrFault.Bad at) → IsBadAt text.now at }
-    ensures full { IsErrOf result DescrFault.Full ↔ (is_field_descriptor text.now ≡ true) × LacksRoom names.old (kind_names text.now) }
+    ensures full { IsErrOf result DescrFault.Full
+        ↔ (is_field_descriptor text.now ≡ true) × LacksRoom names.old (kind_names text.now) }
     // Only a new name takes memory.
-    ensures known { is_field_descriptor text.now ≡ true → list_all (has_name names.old) (kind_names text.now) ≡ true → IsOk result }
+    ensures known { is_field_descriptor text.now ≡ true
+        → list_all (has_name names.old) (kind_names text.now) ≡ true
+        → IsOk result }
     ensures err { OnErr result (names.new ≡ names.old) }
 {
     if let Some(place) = bad_place(text) {
@@ -58,7 +61,9 @@ fn read_element(alloc: Global, text: &[u8], names: &mut Names) -> Result<Elem, D
 
 /// The kind that has the descriptor of an array's element.
 fn kind_of(element: Elem) -> Kind
-    ensures { (names : List (List ℕ)) → is_field_descriptor (element_text names element) ≡ true → IsKindOf names (element_text names element) result }
+    ensures { (names : List (List ℕ))
+        → is_field_descriptor (element_text names element) ≡ true
+        → IsKindOf names (element_text names element) result }
 {
     match element {
         Elem::Class(name) => Kind::Class(name),
