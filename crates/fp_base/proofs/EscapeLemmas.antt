@@ -1,6 +1,9 @@
 -- Different byte strings have different escaped texts and names, and these have printable bytes alone.
-use Rattle.std.proofs.Common.{◌⊎◌, ◌≡◌, ◌≢◌, ℕ, ◌/◌, ◌%◌, ◌<◌, ◌≤◌, Bool, true, false, cond, List, [], ◌∷◌, ◌++◌, refl, sym, ap, arith}
+use Rattle.std.proofs.Common.{◌⊎◌, ◌≡◌, ◌≢◌, ℕ, ◌/◌, ◌%◌, ◌<◌, ◌≤◌, Bool, true, false, cond, List, [], ◌∷◌, ◌++◌, length, get_or, IsAscii, IsUtf8, ⊎_elim, refl, sym, ap, arith}
+use Rattle.std.proofs.lemmas.Bool.{cases_lt}
 use Rattle.std.proofs.lemmas.Bool.Decides.{nat_tests}
+use Rattle.std.proofs.lemmas.List.{get_or_default, get_or_past}
+use Rattle.std.proofs.lemmas.Str.{IsUtf8-from_ascii}
 use Rattle.std.proofs.lemmas.List.Elements.{All-head, All-tail, All-nil, All-cons, All-append}
 use Rattle.std.specs.Prelude.{codes, All}
 use Rattle.fp_base.specs.Escape.{hex_digit, is_plain, escaped_by, escaped_text, escaped_name, AreBytes, IsTextByte, IsNameByte}
@@ -117,3 +120,16 @@ escaped_name-bytes name bytes = all_escaped IsNameByte (codes "\\,.(:") name_byt
 pub ruleset text_laws = (same_escaped_text, escaped_text-bytes)
 
 pub ruleset name_laws = (same_escaped_name, escaped_name-bytes)
+
+-- ---- an escaped name is text
+
+pub escaped_name-IsUtf8 : (name : List ℕ) → ((i : ℕ) → get_or name i 0 < 256) → IsUtf8 (escaped_name name)
+escaped_name-IsUtf8 name bytes = IsUtf8-from_ascii (escaped_name name) ascii
+  where
+    are_bytes : AreBytes name
+    are_bytes k d within = rw (get_or_default name k d 0 within) (bytes k)
+    ascii : IsAscii (escaped_name name)
+    ascii i = ⊎_elim
+        (λ within. let byte = escaped_name-bytes name are_bytes i 0 within in omega (arith, byte.in_text.below_delete))
+        (λ past. rw (get_or_past (escaped_name name) i 0 past) (omega arith))
+        (cases_lt i (length (escaped_name name)))

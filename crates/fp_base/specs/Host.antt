@@ -1,6 +1,8 @@
 -- The real files and streams.
-use Rattle.std.specs.Prelude.{ℕ, List}
+use Rattle.std.specs.Prelude.{ℕ, ◌+◌, ◌-◌, List, length}
 use Rattle.fp_base.specs.Calls.{Call}
+use Rattle.fp_base.specs.declared.host.walk.Walk.{Walk}
+use Rattle.fp_base.specs.declared.host.walk.TheConstants.{MAX_ENTRIES}
 
 -- what the last listing answered, and which calls failed
 pub record HostDirState : Type 0 where
@@ -10,3 +12,7 @@ pub record HostDirState : Type 0 where
 -- how many puts failed
 pub record HostSinkState : Type 0 where
   pub faults : ℕ
+
+-- how many directories a walk may still visit: those that wait, and one for each entry that it may still meet
+abbrev pub visits_left : Walk → ℕ
+visits_left walk = length walk.pending.items + (MAX_ENTRIES - walk.entries)

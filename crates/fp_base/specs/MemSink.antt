@@ -1,5 +1,6 @@
 -- A sink in memory.
-use Rattle.std.specs.Prelude.{ℕ, Bool, true, ◌&&◌, ◌==◌, if◌then◌else◌, is_none, List, [], ◌∷◌, Option, Some, None}
+use Rattle.std.specs.Prelude.{ℕ, Bool, true, ◌&&◌, ◌==◌, if◌then◌else◌, is_none, List, [], ◌∷◌, ◌++◌, Option, Some, None}
+use Rattle.fp_base.specs.Counters.{one_more}
 
 -- the bytes that it has taken, the numbers of the calls that fail with how many bytes each keeps, and how many calls and faults there were
 pub record MemSinkState : Type 0 where
@@ -17,3 +18,11 @@ kept_at (pair ∷ pairs) call = if pair.0 == call then Some pair.1 else kept_at 
 abbrev pub distinct_calls : List (ℕ × ℕ) → Bool
 distinct_calls [] = true
 distinct_calls (pair ∷ pairs) = is_none (kept_at pairs pair.0) && distinct_calls pairs
+
+-- the sink after a call that took these bytes
+abbrev pub after_put : MemSinkState → List ℕ → MemSinkState
+after_put sink bytes = record sink { bytes = sink.bytes ++ bytes; calls = one_more sink.calls }
+
+-- the sink after a call that took these bytes and failed
+abbrev pub after_fault : MemSinkState → List ℕ → MemSinkState
+after_fault sink bytes = record (after_put sink bytes) { faults = one_more sink.faults }

@@ -1,8 +1,8 @@
 //! Byte strings written in printable ASCII, so that different strings are written differently.
-ghost use Rattle.std.specs.Prelude.{◌≡◌, ◌<◌, List, ℕ, ◌++◌, All, OnOk, OnErr};
+ghost use Rattle.std.specs.Prelude.{◌≡◌, ◌<◌, List, ℕ, ◌++◌, All, IfOk, OnOk, OnErr, string_bytes};
 ghost use Rattle.fp_base.specs.Escape.{is_plain, hex_digit, escaped_byte, escaped_by, escaped_text, escaped_name, AreBytes, IsTextByte, IsNameByte};
 
-use std::alloc::AllocError;
+use std::alloc::{AllocError, Global};
 
 /// Appends the escaped text of `text`: each byte from 0x21 to 0x7E but `\` and `,` as itself, and each other byte as `\x` and two
 /// lower-case hexadecimal digits. Where there is no memory, `to` stays as it was.
@@ -22,6 +22,15 @@ pub fn escape_name(name: &[u8], to: &mut Vec<u8>) -> Result<(), AllocError>
     ensures err { OnErr result (to.new.items ≡ to.old.items) }
 {
     append_escaped(b"\\,.(:", name, to)
+}
+
+/// The escaped name of `name`, as a text.
+pub fn escaped_name_text(alloc: Global, name: &[u8]) -> Result<String, AllocError>
+    ensures { IfOk result (λ text. string_bytes text ≡ escaped_name name.now) }
+{
+    let mut bytes = Vec::new(alloc);
+    escape_name(name, &mut bytes)?;
+    Ok(String::from_utf8(bytes).unwrap())
 }
 
 // Appends each byte of `text`, escaped where it is reserved or no printable one.

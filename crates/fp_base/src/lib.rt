@@ -7,7 +7,7 @@ mod memory;
 mod names;
 mod outside;
 
-pub use escape::{escape_name, escape_text, law_escaped_name, law_escaped_text};
+pub use escape::{escape_name, escape_text, escaped_name_text, law_escaped_name, law_escaped_text};
 pub use host::host_dir::HostDir;
 pub use host::host_sink::HostSink;
 pub use memory::files::has_distinct_paths;

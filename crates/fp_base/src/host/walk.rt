@@ -1,6 +1,7 @@
-ghost use Rattle.std.specs.Prelude.{◌≡◌, IfOk, true};
+ghost use Rattle.std.specs.Prelude.{◌≡◌, ◌+◌, ◌≤◌, ◌∷◌, ◌++◌, length, string_bytes, IfOk};
 ghost use Rattle.std.specs.List.{AllPass};
 ghost use Rattle.fp_base.specs.Files.{is_class_file as is_class_path, texts};
+ghost use Rattle.fp_base.specs.Host.{visits_left};
 
 use crate::outside::paths::is_class_file;
 use std::alloc::{AllocError, AllocFailed, Global};
@@ -74,13 +75,10 @@ pub fn class_files<R: Files>(alloc: Global, rt: &R, root: &str) -> Result<Vec<St
         path: String::from_str(alloc, root)?,
         depth: 0,
     })?;
-    for _ in 0..=MAX_ENTRIES {
-        let Some(dir) = walk.pending.pop() else {
-            return Ok(walk.found);
-        };
+    while let Some(dir) = walk.pending.pop() {
         visit(alloc, rt, root, &dir, &mut walk)?;
     }
-    Err(HostFault::Failed)
+    Ok(walk.found)
 }
 
 /// Takes up each entry of a directory.
@@ -92,7 +90,8 @@ fn visit<R: Files>(
     walk: &mut Walk,
 ) -> Result<(), HostFault>
     requires { AllPass (is_class_path root.now) (texts walk.old.found.items) }
-    ensures { AllPass (is_class_path root.now) (texts walk.new.found.items) }
+    ensures below { AllPass (is_class_path root.now) (texts walk.new.found.items) }
+    ensures ends { visits_left walk.new ≤ visits_left walk.old }
 {
     let runtime = (rt, alloc);
     for entry in fs::read_dir(&runtime, dir.path.as_str())? {
@@ -113,7 +112,9 @@ fn visit<R: Files>(
 }
 
 /// A directory's path, a slash, and a name.
-fn join(alloc: Global, dir: &str, name: &str) -> Result<String, AllocError> {
+fn join(alloc: Global, dir: &str, name: &str) -> Result<String, AllocError>
+    ensures { IfOk result (λ path. string_bytes path ≡ dir.now ++ (47 ∷ name.now)) }
+{
     let mut path = String::from_str(alloc, dir)?;
     path.push('/')?;
     path.push_str(name)?;
@@ -122,7 +123,9 @@ fn join(alloc: Global, dir: &str, name: &str) -> Result<String, AllocError> {
 
 /// Notes a directory that is to be visited.
 fn enter(walk: &mut Walk, path: String, depth: u32) -> Result<(), HostFault>
-    ensures { walk.new.found ≡ walk.old.found }
+    ensures found { walk.new.found ≡ walk.old.found }
+    ensures entries { walk.new.entries ≡ walk.old.entries }
+    ensures pending { length walk.new.pending.items ≤ length walk.old.pending.items + 1 }
 {
     if depth >= MAX_DEPTH {
         return Err(HostFault::Failed);
@@ -137,7 +140,8 @@ fn enter(walk: &mut Walk, path: String, depth: u32) -> Result<(), HostFault>
 /// Keeps the path of a class file.
 fn keep(walk: &mut Walk, root: &str, path: String) -> Result<(), HostFault>
     requires { AllPass (is_class_path root.now) (texts walk.old.found.items) }
-    ensures { AllPass (is_class_path root.now) (texts walk.new.found.items) }
+    ensures below { AllPass (is_class_path root.now) (texts walk.new.found.items) }
+    ensures ends { visits_left walk.new ≡ visits_left walk.old }
 {
     if is_class_file(root, path.as_str()) {
         walk.found.push(path)?;

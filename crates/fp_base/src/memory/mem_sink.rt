@@ -1,8 +1,8 @@
-ghost use Rattle.std.specs.Prelude.{◌≡◌, ℕ, [], ◌++◌, length, take, IsTrue, IsNone, IsSomeAnd, Some, OnOk, OnErr, IsErrOf};
+ghost use Rattle.std.specs.Prelude.{◌≡◌, ℕ, [], take, IsTrue, IsNone, IsSomeAnd, Some, OnOk, OnErr, IsErrOf};
 ghost use Rattle.std.specs.Io.KnownBytes.{append_known};
 ghost use Rattle.fp_base.specs.Counters.{one_more};
 ghost use Rattle.fp_base.specs.Faults.{AppendsPart, HasSinkCause};
-ghost use Rattle.fp_base.specs.MemSink.{distinct_calls, kept_at};
+ghost use Rattle.fp_base.specs.MemSink.{after_fault, after_put, distinct_calls, kept_at};
 
 use crate::outside::sink::{Sink, SinkFault};
 use std::alloc::Global;
@@ -90,11 +90,12 @@ impl Sink for MemSink {
 
     fn put(&mut self, piece: &[u8]) -> Result<(), SinkFault>
         // Which calls fail, and what each answer leaves.
-        ensures whole { OnOk result (self.new ≡ record self.old { bytes = self.old.bytes ++ piece.now; calls = one_more self.old.calls }) }
+        ensures whole { OnOk result (self.new ≡ after_put self.old piece.now) }
         ensures no_failing_call { OnOk result (IsNone (kept_at self.old.failing self.old.calls)) }
         ensures failing_call { IsErrOf result SinkFault.Failed
-            → IsSomeAnd (kept_at self.old.failing self.old.calls) (λ kept. self.new ≡ record self.old { bytes = self.old.bytes ++ take kept piece.now; calls = one_more self.old.calls; faults = one_more self.old.faults }) }
-        ensures memory { IsErrOf result SinkFault.Memory → self.new ≡ record self.old { calls = one_more self.old.calls } }
+            → IsSomeAnd (kept_at self.old.failing self.old.calls) (λ kept. self.new ≡ after_fault self.old (take kept piece.now)) }
+        ensures memory { IsErrOf result SinkFault.Memory
+            → self.new ≡ record self.old { calls = one_more self.old.calls } }
 
         // What each sink promises, where these don't say it.
         ensures prefix { OnErr result (AppendsPart (Some self.old.bytes) (Some self.new.bytes) piece.now) }

@@ -4,5 +4,5 @@ use Rattle.fp_base.specs.Files.{is_class_file}
 use Rattle.fp_base.proofs.FileLemmas.{texts-pass}
 use Rattle.fp_base.proofs.host.walk.keep.Goals as goal
 
-pub returns-in_ok-push : goal.returns-in_ok-push
-returns-in_ok-push c = texts-pass (is_class_file c.args.root.now) c.args.walk.now.found.items _ c.args.path c.in_ok-push.ensures.items c.requires (search rules)
+pub returns-in_ok-push-clause-below : goal.returns-in_ok-push-clause-below
+returns-in_ok-push-clause-below c = texts-pass (is_class_file c.args.root.now) c.args.walk.now.found.items _ c.args.path c.in_ok-push.ensures.items c.requires (search rules)
