@@ -1,1 +1,6 @@
+pub mod ArrayTypes
+pub mod ElementTexts
+pub mod EndedNames
 pub mod Many
+pub mod OneKind
+pub mod Stops
