@@ -2,6 +2,7 @@
 #![tactic(auto)]
 
 mod class;
+mod class_set;
 mod fault;
 mod kind;
 mod raw;

@@ -1,0 +1,7 @@
+mod Indexing
+mod Members
+mod Namesakes
+mod Pigeonhole
+mod Reaching
+pub mod Steps
+mod Tables

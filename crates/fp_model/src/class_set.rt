@@ -1,0 +1,4 @@
+//! Sets of classes and interfaces.
+mod cycles;
+mod duplicates;
+mod index;
