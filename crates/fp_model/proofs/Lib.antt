@@ -1,6 +1,7 @@
 mod Indexing
 mod Members
 mod Namesakes
+mod Naming
 mod Pigeonhole
 mod Reaching
 pub mod Steps
