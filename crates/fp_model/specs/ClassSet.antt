@@ -1,5 +1,5 @@
 -- Sets of classes and interfaces, and when one is sound.
-use Rattle.std.specs.Prelude.{◌≡◌, ◌≢◌, ℕ, suc, zero, ◌+◌, ◌<◌, ◌≤◌, ◌^◌, ◌==◌, nat_lt, Bool, true, false, ◌||◌, List, [], ◌∷◌, length, take, map, filter, position, slice_get, option_and_then, option_map, Option, Some, None, IfSome, All, zip, count_by, if◌then◌else◌}
+use Rattle.std.specs.Prelude.{◌≡◌, ◌≢◌, ℕ, suc, zero, ◌+◌, ◌<◌, ◌≤◌, ◌^◌, ◌==◌, nat_lt, Bool, true, false, ◌||◌, List, [], ◌∷◌, length, take, map, filter, position, slice_get, option_and_then, option_map, Option, Some, None, IfSome, All, zip, count_by, string_bytes, if◌then◌else◌}
 use Rattle.std.specs.List.{flat_map, range_with_len}
 use Rattle.std.specs.Option.{option_or}
 use Rattle.std.specs.Ordering.{nat_cmp, is_lt}
@@ -7,6 +7,8 @@ use Rattle.std.specs.Cmp.Lexicographic.{slice_cmp}
 use Rattle.fp_model.specs.declared.class.Class.{Class}
 use Rattle.fp_model.specs.declared.class.Field.{Field}
 use Rattle.fp_model.specs.declared.class.Method.{Method}
+use Rattle.fp_model.specs.declared.class_set.fault.SetFault.{SetFault}
+use Rattle.fp_model.specs.declared.class_set.fault.SetFault.TheVariants as fault
 use Rattle.fp_base.specs.Escape.{escaped_name}
 use Rattle.fp_base.specs.Names.{AreDistinct}
 use Rattle.fp_model.specs.Descriptor.{text_of, IsKindOf, IsDescrOf}
@@ -136,3 +138,16 @@ pub record IsSet (set : SetView) : Type 0 where
   pub few : AreFew set.classes
   pub sound : IsSound set.classes
   pub names : AreDistinct set.names
+
+-- what holds of a set with an index of the first class of each name, and the numbers of the first members of each class
+pub record IsIndexed (set : SetView) (index : List (Option ℕ)) (first_fields first_methods : List ℕ) : Type 0 where
+  pub valid : IsSet set
+  pub by_name : index ≡ map (class_named set.classes) (range_with_len 0 (length set.names))
+  pub fields : first_fields ≡ map (first_field_of set.classes) (range_with_len 0 (length set.classes + 1))
+  pub methods : first_methods ≡ map (first_method_of set.classes) (range_with_len 0 (length set.classes + 1))
+
+-- the fault tells why the classes are refused; want of memory tells nothing
+abbrev pub TellsRefusal : Option SetRefusal → SetFault → Type 0
+TellsRefusal refusal (fault.Duplicate name) = refusal ≡ Some (Duplicate (string_bytes name))
+TellsRefusal refusal (fault.SuperCycle name) = refusal ≡ Some (SuperCycle (string_bytes name))
+TellsRefusal refusal fault.Memory = Unit {0}

@@ -1,6 +1,7 @@
 //! Where the classes of a set stand by their names, and where their members begin.
 ghost use Rattle.std.specs.Prelude.{◌≡◌, ◌+◌, ◌-◌, ◌<◌, ◌≤◌, ◌^◌, length, map, slice_index, IfOk, All};
 ghost use Rattle.std.specs.List.{range_with_len};
+ghost use Rattle.fp_base.specs.Names.{AreDistinct};
 ghost use Rattle.fp_model.specs.ClassSet.{IsClassOver, AreFew, class_named, first_field_of, first_method_of};
 
 use crate::class::{Class, ClassId, FieldId, MethodId};
@@ -15,7 +16,8 @@ pub fn index_by_name(
 ) -> Result<Vec<Option<ClassId>>, AllocError>
     requires over { All (IsClassOver names.now) classes.now }
     requires few { AreFew classes.now }
-    ensures { IfOk result (λ index. index.items ≡ map (class_named classes.now) (range_with_len 0 (length names.now))) }
+    ensures index { IfOk result (λ index. index.items ≡ map (class_named classes.now) (range_with_len 0 (length names.now))) }
+    ensures distinct { AreDistinct names.now }
 {
     let mut index = vec![in alloc; None; names.len() as usize]?;
     for (id, class) in classes.iter().enumerate() {
