@@ -1,8 +1,10 @@
 mod Counting
+mod Finding
 mod Indexing
 mod Members
 mod Namesakes
 mod Naming
+mod Owners
 mod Pigeonhole
 mod Reaching
 mod Refusals

@@ -8,6 +8,7 @@ mod cycles;
 mod duplicates;
 pub mod fault;
 mod index;
+mod readers;
 
 use crate::class::{Class, ClassId};
 use blame::first_marked_name;

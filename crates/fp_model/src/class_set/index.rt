@@ -1,6 +1,7 @@
 //! Where the classes of a set stand by their names, and where their members begin.
-ghost use Rattle.std.specs.Prelude.{◌≡◌, ◌+◌, ◌-◌, ◌<◌, ◌≤◌, ◌^◌, length, map, slice_index, IfOk, All};
+ghost use Rattle.std.specs.Prelude.{◌≡◌, ◌+◌, ◌-◌, ◌<◌, ◌≤◌, ◌^◌, length, map, slice_index, slice_get, IfOk, All};
 ghost use Rattle.std.specs.List.{range_with_len};
+ghost use Rattle.std.specs.Option.{option_flatten};
 ghost use Rattle.fp_base.specs.Names.{AreDistinct};
 ghost use Rattle.fp_model.specs.ClassSet.{IsClassOver, AreFew, class_named, first_field_of, first_method_of};
 
@@ -25,6 +26,13 @@ pub fn index_by_name(
         index[name] = index[name].or(Some(id as ClassId));
     }
     Ok(index)
+}
+
+/// What the index has at a name, which may lie past its end.
+pub fn find_by_name(index: &[Option<ClassId>], name: u32) -> Option<ClassId>
+    ensures { result ≡ option_flatten (slice_get index.now name) }
+{
+    index.get(name as usize).copied().flatten()
 }
 
 /// The number of the first field of each class, and of its first method, and behind them how many there are.
