@@ -1,5 +1,5 @@
 -- The index of classes by name, one class after the other.
-use Rattle.std.proofs.Common.{◌≡◌, ℕ, ◌+◌, ◌<◌, ◌≤◌, Bool, true, false, cond, eqb, ◌==◌, List, [], ◌∷◌, length, get_or, set, take, position, Option, Some, None, inl, inr, ⊎_elim, refl, sym, ap, subst, ◌∙◌, All, IfSome, map, option_and_then, slice_index_or, arith, eq-eqb, ne_eqb, get_or-set_same, get_or-set_other}
+use Rattle.std.proofs.Common.{◌≡◌, ℕ, ◌+◌, ◌<◌, ◌≤◌, Bool, true, false, cond, eqb, ◌==◌, List, [], ◌∷◌, ◌++◌, length, get_or, set, take, position, Option, Some, None, inl, inr, ⊎_elim, refl, sym, ap, ap₂, subst, ◌∙◌, All, IfSome, map, option_and_then, slice_index_or, arith, eq-eqb, ne_eqb, get_or-set_same, get_or-set_other}
 use Rattle.std.specs.List.{range_with_len}
 use Rattle.std.specs.Option.{option_or}
 use Rattle.std.proofs.lemmas.Bool.{cases_eq}
@@ -8,7 +8,7 @@ use Rattle.std.proofs.lemmas.List.FromFn.{get_or-map-range_with_len}
 use Rattle.std.proofs.lemmas.Option.{slice_get-get_or}
 use Rattle.fp_model.specs.declared.class.Class.{Class}
 use Rattle.fp_model.specs.ClassSet.{class_named, superclass_of}
-use Rattle.fp_model.proofs.Tables.{position_more}
+use Rattle.fp_model.proofs.Tables.{position_more, table_more}
 
 option_or-None : (o : Option ℕ) → option_or o None ≡ o
 option_or-None None = refl
@@ -41,7 +41,7 @@ index_more classes index i c old new within is named was made indexed k small = 
     (cases_eq k c.name)
 
 -- the superclass of a class, by the index
-pub superclass_by_index : (classes : List Class) (index : List (Option ℕ)) (i : ℕ) (c : Class) → i < length classes → c ≡ get_or classes i c → IfSome c.parent (λ name. name < length index) → index ≡ map (class_named classes) (range_with_len 0 (length index)) → option_and_then (λ name. slice_index_or index name None) c.parent ≡ superclass_of classes i
+superclass_by_index : (classes : List Class) (index : List (Option ℕ)) (i : ℕ) (c : Class) → i < length classes → c ≡ get_or classes i c → IfSome c.parent (λ name. name < length index) → index ≡ map (class_named classes) (range_with_len 0 (length index)) → option_and_then (λ name. slice_index_or index name None) c.parent ≡ superclass_of classes i
 superclass_by_index classes index i c within is named table =
     by_parent c.parent named ∙ ap (option_and_then (λ (d : Class). option_and_then (class_named classes) d.parent)) (sym (slice_get-get_or classes i c within ∙ ap (λ d. Some d) (sym is)))
   where
@@ -50,3 +50,10 @@ superclass_by_index classes index i c within is named table =
     by_parent (Some name) small =
         ap (λ all. slice_index_or all name None) table
         ∙ get_or-map-range_with_len (class_named classes) 0 (length index) name name None small (omega arith)
+
+-- the superclass of one class more
+pub superclasses_more : (classes : List Class) (index supers : List (Option ℕ)) (i : ℕ) (c : Class) (found : Option ℕ) → i < length classes → c ≡ get_or classes i c → All (λ d. IfSome d.parent (λ name. name < length index)) classes → index ≡ map (class_named classes) (range_with_len 0 (length index)) → supers ≡ map (superclass_of classes) (range_with_len 0 i) → found ≡ option_and_then (λ name. slice_index_or index name None) c.parent → supers ++ found ∷ [] ≡ map (superclass_of classes) (range_with_len 0 (i + 1))
+superclasses_more classes index supers i c found within is named table so_far one =
+    ap₂ (λ front last. front ++ last ∷ []) so_far
+        (one ∙ superclass_by_index classes index i c within is (one_of_all (λ (d : Class). IfSome d.parent (λ name. name < length index)) classes i c named within is) table)
+    ∙ table_more (superclass_of classes) i

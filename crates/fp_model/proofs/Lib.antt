@@ -1,5 +1,6 @@
 mod Counting
 mod Finding
+mod FirstText
 mod Indexing
 mod Members
 mod Namesakes

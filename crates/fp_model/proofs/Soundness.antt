@@ -7,21 +7,13 @@ use Rattle.std.proofs.lemmas.List.{get_or-map, get_or_past, length-map}
 use Rattle.std.proofs.lemmas.List.FromFn.{get_or-map-range_with_len, length-map-range_with_len}
 use Rattle.std.proofs.lemmas.Option.{none-some, slice_get_within, get_or_from_slice_get, slice_get-get_or}
 use Rattle.fp_model.specs.declared.class.Class.{Class}
-use Rattle.fp_model.specs.ClassSet.{SetView, SetRefusal, IsSound, refusal_of, least_text, marked_names, namesake_marks, cycle_marks, has_namesake, is_on_cycle, ancestor_after, superclass_of, comes_back}
+use Rattle.fp_model.specs.ClassSet.{SetView, SetRefusal, Duplicate, SuperCycle, IsSound, IsFirstOf, refusal_of, least_text, marked_names, namesake_marks, cycle_marks, has_namesake, is_on_cycle, ancestor_after, superclass_of, comes_back}
+use Rattle.fp_model.proofs.FirstText.{least_text-None, least_text-Some}
 use Rattle.fp_model.proofs.Counting.{counted_two, two_counted}
 use Rattle.fp_model.proofs.Reaching.{superclass_of-within}
-use Rattle.fp_model.proofs.Steps.{Leads, Leads-steps, comes_back-any, comes_back-true, starts_within}
+use Rattle.fp_model.proofs.Steps.{Leads, Leads-steps, comes_back-any, comes_back-true, comes_round_from, starts_within}
 
 -- ---- no name is told where nothing is marked
-
-least_text-None : (texts : List (List ℕ)) → least_text texts ≡ None → texts ≡ []
-unfolding least_text
-least_text-None [] e = refl
-least_text-None (text ∷ texts) e = absurd (none-some _ (sym e))
-
--- no class is marked
-pub IsUnmarked : List Bool → Type 0
-IsUnmarked marks = (k : ℕ) → get_or marks k false ≡ false
 
 unmarked : (names : List (List ℕ)) (classes : List Class) (marks : List Bool) → length marks ≡ length classes → marked_names names classes marks ≡ [] → (k : ℕ) → get_or marks k false ≡ false
 unmarked names [] [] long e k = refl
@@ -120,3 +112,38 @@ unrefused_where_sound set sound =
     let no_duplicate = no_name set.names set.classes (namesake_marks set.classes) (unmarked_where_distinct set.classes sound.distinct) in
     let no_cycle = no_name set.names set.classes (cycle_marks set.classes) (unmarked_where_acyclic set.classes sound.acyclic) in
     rw (no_duplicate, no_cycle) refl
+
+-- ---- chains end
+
+pub chain_ends : (classes : List Class) → IsSound classes → (id : ℕ) → id < length classes → ancestor_after classes (length classes) id ≡ None
+chain_ends classes sound id within = ends (ancestor_after classes (length classes) id) refl
+  where
+    ends : (to : Option ℕ) → ancestor_after classes (length classes) id ≡ to → to ≡ None
+    ends None e = refl
+    ends (Some z) e =
+      let round = comes_round_from (superclass_of-within classes) (length classes) id z (omega arith) (omega arith) (record { leads = e }) in
+      absurd (sound.acyclic (round.0 - 1) z (Leads-steps round.0 (suc (round.0 - 1)) (omega arith) round.3).leads)
+
+-- ---- the name that is told
+
+first_duplicate : (a b : Option (List ℕ)) (name : List ℕ) → option_or (option_map Duplicate a) (option_map SuperCycle b) ≡ Some (Duplicate name) → a ≡ Some name
+first_duplicate None None name e = absurd cc
+first_duplicate None (Some b) name e = absurd cc
+first_duplicate (Some a) b name e = cc
+
+first_on_cycle : (a b : Option (List ℕ)) (name : List ℕ) → option_or (option_map Duplicate a) (option_map SuperCycle b) ≡ Some (SuperCycle name) → (a ≡ None) × (b ≡ Some name)
+first_on_cycle None None name e = absurd cc
+first_on_cycle None (Some b) name e = (refl, cc)
+first_on_cycle (Some a) b name e = absurd cc
+
+pub duplicate_is_first : (set : SetView) (name : List ℕ) → refusal_of set ≡ Some (Duplicate name) → IsFirstOf (marked_names set.names set.classes (namesake_marks set.classes)) name
+unfolding refusal_of
+duplicate_is_first set name e =
+    least_text-Some (marked_names set.names set.classes (namesake_marks set.classes)) name
+        (first_duplicate (least_text (marked_names set.names set.classes (namesake_marks set.classes))) (least_text (marked_names set.names set.classes (cycle_marks set.classes))) name e)
+
+pub cycle_is_first : (set : SetView) (name : List ℕ) → refusal_of set ≡ Some (SuperCycle name) → (marked_names set.names set.classes (namesake_marks set.classes) ≡ []) × IsFirstOf (marked_names set.names set.classes (cycle_marks set.classes)) name
+unfolding refusal_of
+cycle_is_first set name e =
+    let both = first_on_cycle (least_text (marked_names set.names set.classes (namesake_marks set.classes))) (least_text (marked_names set.names set.classes (cycle_marks set.classes))) name e in
+    (least_text-None _ both.0, least_text-Some (marked_names set.names set.classes (cycle_marks set.classes)) name both.1)

@@ -1,5 +1,5 @@
 -- Sets of classes and interfaces, and when one is sound.
-use Rattle.std.specs.Prelude.{◌≡◌, ◌≢◌, ℕ, suc, zero, ◌+◌, ◌<◌, ◌≤◌, ◌^◌, ◌==◌, nat_lt, Bool, true, false, ◌||◌, List, [], ◌∷◌, length, take, map, filter, position, slice_get, option_and_then, option_map, Option, Some, None, IfSome, All, zip, count_by, string_bytes, if◌then◌else◌}
+use Rattle.std.specs.Prelude.{◌≡◌, ◌≢◌, ℕ, suc, zero, ◌+◌, ◌<◌, ◌≤◌, ◌^◌, ◌==◌, nat_lt, Bool, true, false, ◌||◌, List, [], ◌∷◌, length, take, map, filter, position, slice_get, option_and_then, option_map, Option, Some, None, IfSome, All, Contains, zip, count_by, string_bytes, if◌then◌else◌}
 use Rattle.std.specs.List.{flat_map, range_with_len}
 use Rattle.std.specs.Option.{option_or}
 use Rattle.std.specs.Ordering.{nat_cmp, is_lt}
@@ -71,14 +71,20 @@ has_namesake classes c = nat_lt 1 (count_by (λ d. d.name == c.name) classes)
 abbrev pub is_before : List ℕ → List ℕ → Bool
 is_before a b = is_lt (slice_cmp nat_cmp a b)
 
--- the first of texts by their bytes
+-- the text, or another one that comes before it
 abbrev pub earlier : List ℕ → Option (List ℕ) → List ℕ
 earlier text None = text
 earlier text (Some other) = if is_before other text then other else text
 
+-- the first of all of them
 unfoldable pub least_text : List (List ℕ) → Option (List ℕ)
 least_text [] = None
 least_text (text ∷ texts) = Some (earlier text (least_text texts))
+
+-- the text is one of these, and none of them comes before it
+pub record IsFirstOf (texts : List (List ℕ)) (text : List ℕ) : Type 0 where
+  pub among : Contains texts text
+  pub first : All (λ other. is_before other text ≡ false) texts
 
 -- the escaped names of those classes that are marked
 abbrev pub marked_names : List (List ℕ) → List Class → List Bool → List (List ℕ)

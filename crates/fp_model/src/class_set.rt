@@ -1,7 +1,7 @@
 //! Sets of classes and interfaces.
-ghost use Rattle.std.specs.Prelude.{◌≡◌, None, length, map, OnOk, IfOk, IfErr, All};
+ghost use Rattle.std.specs.Prelude.{◌≡◌, ℕ, ◌<◌, List, [], None, Some, length, map, OnOk, IfOk, IfErr, All};
 ghost use Rattle.std.specs.List.{range_with_len};
-ghost use Rattle.fp_model.specs.ClassSet.{SetView, IsClassOver, AreFew, IsSound, class_named, refusal_of, TellsRefusal};
+ghost use Rattle.fp_model.specs.ClassSet.{SetView, IsClassOver, AreFew, IsSound, IsFirstOf, Duplicate, SuperCycle, class_named, ancestor_after, marked_names, namesake_marks, cycle_marks, refusal_of, TellsRefusal};
 
 mod blame;
 mod cycles;
@@ -88,10 +88,23 @@ fn check_sound(
     Ok(())
 }
 
-/// A set is refused exactly where two classes have one name or a chain of superclasses comes back to its
-/// start.
+/// Classes are refused exactly where two of them have one name or a chain of superclasses comes back to its
+/// start. In a sound set each chain ends within as many steps as there are classes.
 pub fn law_sound()
     ensures sound { (set : SetView) → refusal_of set ≡ None → IsSound set.classes }
     ensures unrefused { (set : SetView) → IsSound set.classes → refusal_of set ≡ None }
+    ensures ends { (classes : List Class) → IsSound classes → (id : ℕ) → id < length classes
+        → ancestor_after classes (length classes) id ≡ None }
+{
+}
+
+/// The name in a refusal is the first of the escaped names of the classes with a namesake, or, where none has
+/// one, of the classes on a cycle of superclasses.
+pub fn law_refused()
+    ensures duplicate { (set : SetView) (name : List ℕ) → refusal_of set ≡ Some (Duplicate name)
+        → IsFirstOf (marked_names set.names set.classes (namesake_marks set.classes)) name }
+    ensures cycle { (set : SetView) (name : List ℕ) → refusal_of set ≡ Some (SuperCycle name)
+        → (marked_names set.names set.classes (namesake_marks set.classes) ≡ [])
+        × IsFirstOf (marked_names set.names set.classes (cycle_marks set.classes)) name }
 {
 }

@@ -10,7 +10,7 @@ mod raw;
 pub use class::instr::{BootArg, BootRef, Instr};
 pub use class::{Class, ClassId, Code, Field, FieldId, Guard, Method, MethodId, SiteId};
 pub use class_set::fault::SetFault;
-pub use class_set::{ClassSet, law_sound};
+pub use class_set::{ClassSet, law_refused, law_sound};
 pub use fault::FileFault;
 pub use kind::{Descr, Elem, Kind, Sort};
 pub use raw::attribute::{BootRow, CatchRow, RawAttr, RawBody, RawCode, RawIns};
