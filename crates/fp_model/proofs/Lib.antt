@@ -1,6 +1,20 @@
+mod Counting
+mod Finding
+mod FirstText
+mod Indexing
+mod Members
+mod Namesakes
+mod Naming
+mod Owners
+mod Pigeonhole
+mod Reaching
+mod Refusals
+mod Tables
 pub mod ArrayTypes
 pub mod ElementTexts
 pub mod EndedNames
 pub mod Many
 pub mod OneKind
+pub mod Soundness
+pub mod Steps
 pub mod Stops

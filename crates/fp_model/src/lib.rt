@@ -2,6 +2,7 @@
 #![tactic(auto)]
 
 mod class;
+mod class_set;
 mod descriptor;
 mod fault;
 mod kind;
@@ -10,6 +11,8 @@ pub mod reading;
 
 pub use class::instr::{BootArg, BootRef, Instr};
 pub use class::{Class, ClassId, Code, Field, FieldId, Guard, Method, MethodId, SiteId};
+pub use class_set::fault::SetFault;
+pub use class_set::{ClassSet, law_refused, law_sound};
 pub use descriptor::{DescrFault, is_kind, law_one_kind, read_kind};
 pub use fault::FileFault;
 pub use kind::{Descr, Elem, Kind, Sort};

@@ -1,0 +1,64 @@
+-- The first of texts by their bytes is one of them, and none comes before it.
+use Rattle.std.proofs.Common.{◌≡◌, ℕ, suc, ◌<◌, Bool, true, false, cond, List, [], ◌∷◌, Option, Some, None, All, Contains, inl, inr, ⊎_elim, refl, sym, ap, subst, ◌∙◌, is_lt, is_gt, nat_cmp, Ordering, Less, Equal, Greater, arith}
+use Rattle.std.specs.Cmp.Lexicographic.{slice_cmp}
+use Rattle.std.specs.Ordering.{ordering_reverse}
+use Rattle.std.proofs.lemmas.Cmp.{nat_list_cmp_total, upto, tied_itself}
+use Rattle.std.proofs.lemmas.Bool.{cases_Bool, cond-true, cond-false, false≢true}
+use Rattle.std.proofs.lemmas.List.Elements.{All-nil, All-cons, All-weaker}
+use Rattle.std.proofs.lemmas.Option.{none-some, same_Some}
+use Rattle.fp_model.specs.ClassSet.{is_before, earlier, least_text, IsFirstOf}
+
+before_reversed : (r s : Ordering) → r ≡ ordering_reverse s → is_lt r ≡ is_gt s
+before_reversed r Less e = ap is_lt e
+before_reversed r Equal e = ap is_lt e
+before_reversed r Greater e = ap is_lt e
+
+-- a text comes before another where that is the greater one
+before_is : (a b : List ℕ) → is_before a b ≡ is_gt (slice_cmp nat_cmp b a)
+before_is a b = before_reversed (slice_cmp nat_cmp a b) (slice_cmp nat_cmp b a) (nat_list_cmp_total.antisymm a b)
+
+not_before_itself : (a : List ℕ) → is_before a a ≡ false
+not_before_itself a = ap is_lt (tied_itself nat_list_cmp_total a)
+
+-- what doesn't come before a text doesn't come before an earlier one
+not_before : (a b c : List ℕ) → is_before b a ≡ false → is_before c b ≡ false → is_before c a ≡ false
+not_before a b c first second =
+    before_is c a ∙ upto nat_list_cmp_total a b c (sym (before_is b a) ∙ first) (sym (before_is c b) ∙ second)
+
+not_after : (r : Ordering) → is_lt r ≡ true → is_gt r ≡ false
+not_after Less e = refl
+not_after Equal e = refl
+not_after Greater e = absurd (false≢true e)
+
+before_one_way : (a b : List ℕ) → is_before a b ≡ true → is_before b a ≡ false
+before_one_way a b e = before_is b a ∙ not_after (slice_cmp nat_cmp a b) e
+
+pub least_text-None : (texts : List (List ℕ)) → least_text texts ≡ None → texts ≡ []
+unfolding least_text
+least_text-None [] e = refl
+least_text-None (text ∷ texts) e = absurd (none-some _ (sym e))
+
+pub least_text-Some : (texts : List (List ℕ)) (text : List ℕ) → least_text texts ≡ Some text → IsFirstOf texts text
+unfolding least_text
+least_text-Some [] text e = absurd (none-some text e)
+least_text-Some (t ∷ ts) text e = with_rest (λ m. least_text-Some ts m) (least_text ts) refl (same_Some (earlier t (least_text ts)) text e)
+  where
+    with_rest : ((m : List ℕ) → least_text ts ≡ Some m → IsFirstOf ts m) → (rest : Option (List ℕ)) → least_text ts ≡ rest → earlier t rest ≡ text → IsFirstOf (t ∷ ts) text
+    with_rest below None none is =
+      subst (λ l. IsFirstOf (t ∷ ts) l) is (subst (λ rest. IsFirstOf (t ∷ rest) t) (sym (least_text-None ts none)) (record {
+        among = (0, omega arith, refl);
+        first = All-cons (λ other. is_before other t ≡ false) t [] (not_before_itself t) (All-nil (λ other. is_before other t ≡ false));
+      }))
+    with_rest below (Some m) least is =
+      let found = below m least in
+      ⊎_elim
+        (λ earlier_one. subst (λ l. IsFirstOf (t ∷ ts) l) (sym (cond-true (is_before m t) m t earlier_one) ∙ is) (record {
+          among = (suc found.among.0, omega arith, found.among.2);
+          first = All-cons (λ other. is_before other m ≡ false) t ts (before_one_way m t earlier_one) found.first;
+        }))
+        (λ later. subst (λ l. IsFirstOf (t ∷ ts) l) (sym (cond-false (is_before m t) m t later) ∙ is) (record {
+          among = (0, omega arith, refl);
+          first = All-cons (λ other. is_before other t ≡ false) t ts (not_before_itself t)
+              (All-weaker (λ other. is_before other m ≡ false) (λ other. is_before other t ≡ false) (λ other no. not_before t m other later no) ts found.first);
+        }))
+        (cases_Bool (is_before m t))
