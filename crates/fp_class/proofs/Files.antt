@@ -1,16 +1,18 @@
 -- A thin class file is read from its spelling, and what is read is spelled so.
-use Rattle.std.proofs.Common.{◌≡◌, ℕ, ◌+◌, ◌<◌, ◌≤◌, ◌^◌, Bool, true, ◌&&◌, List, [], ◌∷◌, ◌++◌, Result, Ok, IsTrue, length, ltb, ◌==◌, refl, sym, ap, ◌∙◌, subst, arith, eq-eqb}
-use Rattle.std.proofs.lemmas.Bool.{and_parts, and_from, eqb-true}
+use Rattle.std.proofs.Common.{◌≡◌, ℕ, ◌+◌, ◌<◌, ◌≤◌, ◌^◌, Bool, true, ◌&&◌, List, [], ◌∷◌, ◌++◌, Result, Ok, Err, IfOk, IsTrue, length, ltb, ◌==◌, refl, sym, ap, ◌∙◌, subst, arith, eq-eqb}
+use Rattle.std.proofs.lemmas.Bool.{and_parts, and_from, eqb-true, ltb-true}
 use Rattle.std.proofs.lemmas.List.{nil_from_length}
 use Rattle.std.specs.List.{list_all, flat_map}
 use Rattle.std.specs.Int.{w16, w32}
 use Rattle.fp_model.specs.declared.fault.FileFault.{FileFault}
+use Rattle.fp_model.specs.declared.raw.pool.Entry.{Entry}
+use Rattle.fp_model.specs.declared.raw.pool.Entry.TheVariants as entry
 use Rattle.fp_model.specs.declared.raw.Raw.{Raw}
 use Rattle.fp_model.specs.declared.raw.RawMember.{RawMember}
 use Rattle.fp_model.specs.declared.raw.attribute.RawAttr.{RawAttr}
-use Rattle.fp_model.specs.Reading.{◌>>=◌, unbuilt, demanded, number_at, counted_at, nothing_at}
+use Rattle.fp_model.specs.Reading.{◌>>=◌, Gives, unbuilt, demanded, number_at, counted_at, nothing_at}
 use Rattle.fp_model.specs.Spelling.{u2, u4, counted, spelled_pool, spelled_member, spelled_attr, spelled}
-use Rattle.fp_model.specs.Thin.{is_u2, is_thin_pool, is_bare, has_thin_form, is_sound, IsThin, pool_at, field_at, parts_of, class_of}
+use Rattle.fp_model.specs.Thin.{is_u2, is_thin_entry, is_thin_pool, is_bare, has_thin_form, is_sound, IsThin, pool_at, field_at, parts_of, class_of}
 use Rattle.fp_model.proofs.Takes.{Takes, Takes-then, Takes-split, Takes-whole, Takes-all}
 use Rattle.fp_model.proofs.Readers.{opened, stepped, demanded-true, demanded-Ok, IsBytes, IsReader, reads_u2, u4_takes, u4_again, reads_counted, nothing_takes, nothing_again}
 use Rattle.fp_class.proofs.Pieces.{reads_pool, reads_field}
@@ -164,3 +166,20 @@ pub one_spelling : (a b : Raw) → IsThin a → IsThin b → spelled a ≡ spell
 one_spelling a b thin also same =
     let reads : Ok a ≡ Ok b = sym (class_again a thin) ∙ ap class_of same ∙ class_again b also in
     cc
+
+-- what is cut into parts has at most 65,536 indexes in its pool
+pub few_entries : (bytes : List ℕ) → IsBytes bytes → (raw : Raw) → parts_of bytes ≡ Ok raw → length raw.pool.entries ≤ 65536
+few_entries bytes below raw e = few_in raw.pool.entries (form_of raw (parts_taken bytes below raw e).0).pool
+  where
+    few_in : (entries : List Entry) → IsTrue (is_thin_pool entries) → length entries ≤ 65536
+    few_in (entry.Unused ∷ more) formed = omega (arith, ltb-true (length more) 65535 (and_parts (ltb (length more) 65535) (list_all is_thin_entry more) formed).0)
+    few_in entries formed = absurd (cc)
+
+-- ---- a call that answers what the format says
+
+pub found : (bytes : List ℕ) → IsBytes bytes → length bytes < 2 ^ 32 → (result : Result Raw FileFault) → Gives result (class_of bytes) → IfOk result (λ raw. IsThin raw × (spelled raw ≡ bytes))
+found bytes below short (Ok raw) g = class_taken bytes below short raw g
+found bytes below short (Err e) g = tt
+
+pub only : (bytes : List ℕ) (result : Result Raw FileFault) → Gives result (class_of bytes) → (raw : Raw) → IsThin raw → spelled raw ≡ bytes → Gives result (Ok raw)
+only bytes result g raw thin same = subst (Gives result) (sym (ap class_of same) ∙ class_again raw thin) g

@@ -1,2 +1,5 @@
+mod Conditions
 pub mod Files
+mod Numberings
 mod Pieces
+mod Repeating

@@ -1,5 +1,11 @@
 //! Reads a class file (JVMS SE 21 chapter 4).
 #![tactic(auto)]
 
+mod entries;
 mod parts;
 mod pool;
+mod reader;
+mod repeats;
+mod soundness;
+
+pub use reader::{law_spelling, read_class};
