@@ -1,11 +1,16 @@
 -- Descriptors (JVMS SE 21 section 4.3), as texts and as what they say.
-use Rattle.std.specs.Prelude.{◌≡◌, ℕ, ◌-◌, nat_le, nat_lt, ◌==◌, Bool, true, false, ◌&&◌, ◌||◌, not, List, [], ◌∷◌, ◌++◌, length, take, drop, replicate, codes, slice_get, slice_index, unwrap_or, Option, Some, None, IsTrue, IfSome, if◌then◌else◌}
+use Rattle.std.specs.Prelude.{◌≡◌, ℕ, ◌+◌, ◌-◌, ◌<◌, ◌≤◌, nat_le, nat_lt, ◌==◌, Bool, true, false, ◌&&◌, ◌||◌, not, List, [], ◌∷◌, ◌++◌, length, take, drop, replicate, codes, slice_get, slice_index, unwrap_or, Option, Some, None, IsTrue, IfSome, if◌then◌else◌}
 use Rattle.std.specs.List.{list_all, list_any, take_while, flat_map}
 use Rattle.fp_model.specs.declared.kind.Kind.{Kind}
 use Rattle.fp_model.specs.declared.kind.Kind.TheVariants as kind
 use Rattle.fp_model.specs.declared.kind.Elem.{Elem}
 use Rattle.fp_model.specs.declared.kind.Elem.TheVariants as elem
 use Rattle.fp_model.specs.declared.kind.Descr.{Descr}
+use Rattle.fp_model.specs.declared.descriptor.fault.DescrFault.{DescrFault}
+use Rattle.fp_model.specs.declared.descriptor.fault.DescrFault.TheVariants as fault
+use Rattle.fp_base.specs.Names.{has_name}
+use Rattle.fp_base.specs.declared.names.NameFault.{NameFault}
+use Rattle.fp_base.specs.declared.names.NameFault.TheVariants as name_fault
 
 -- the byte is one of a text's
 abbrev pub is_among : List ℕ → ℕ → Bool
@@ -31,6 +36,31 @@ dimensions text = length (take_while (λ c. c == 91) text)
 -- a field descriptor: at most 255 '[', and the type of an element
 abbrev pub is_field_descriptor : List ℕ → Bool
 is_field_descriptor text = nat_le (dimensions text) 255 && is_element (drop (dimensions text) text)
+
+-- a text that passes the test begins like this
+abbrev pub GoesOn : (List ℕ → Bool) → List ℕ → Type 0
+GoesOn test front = (rest : List ℕ) × IsTrue (test (front ++ rest))
+
+-- the first place in a text where no text that passes the test goes on
+pub record StopsAt (test : List ℕ → Bool) (text : List ℕ) (at : ℕ) : Type 0 where
+  pub within : at ≤ length text
+  pub before : GoesOn test (take at text)
+  pub after : at < length text → ¬ GoesOn test (take (at + 1) text)
+  pub whole : at ≡ length text → test text ≡ false
+
+-- the first byte where no field descriptor goes on, or the text's length
+abbrev pub IsBadAt : List ℕ → ℕ → Type 0
+IsBadAt = StopsAt is_field_descriptor
+
+-- why no descriptor was read, where a name in it was not taken
+abbrev pub fault_of : NameFault → DescrFault
+fault_of name_fault.Full = fault.Full
+fault_of name_fault.Memory = fault.Memory
+
+-- the fault tells that place
+abbrev pub TellsPlace : List ℕ → DescrFault → Type 0
+TellsPlace text (fault.Bad at) = IsBadAt text at
+TellsPlace text _ = ⊥
 
 -- the text begins like an array type
 abbrev pub is_array_like : List ℕ → Bool
@@ -77,10 +107,18 @@ element_names (c ∷ rest) = if c == 76 then take (length rest - 1) rest ∷ [] 
 abbrev pub kind_names : List ℕ → List (List ℕ)
 kind_names text = element_names (drop (dimensions text) text)
 
+-- the table holds as many names as it may, and lacks one of these
+abbrev pub LacksRoom : List (List ℕ) → List (List ℕ) → Type 0
+LacksRoom names texts = (length names ≡ 16777216) × IsTrue (list_any (λ text. not (has_name names text)) texts)
+
 -- the kind is what a field descriptor says
 pub record IsKindOf (names : List (List ℕ)) (text : List ℕ) (k : Kind) : Type 0 where
   pub written : kind_text names k ≡ text
   pub kind : IsTrue (is_kind names k)
+
+-- a text says at most one kind
+abbrev pub SaysOneKind : List (List ℕ) → List ℕ → Type 0
+SaysOneKind names text = (a b : Kind) → IsKindOf names text a → IsKindOf names text b → a ≡ b
 
 -- the text of a method's result
 abbrev pub result_text : List (List ℕ) → Option Kind → List ℕ

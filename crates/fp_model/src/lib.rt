@@ -10,7 +10,7 @@ pub mod reading;
 
 pub use class::instr::{BootArg, BootRef, Instr};
 pub use class::{Class, ClassId, Code, Field, FieldId, Guard, Method, MethodId, SiteId};
-pub use descriptor::is_kind;
+pub use descriptor::{DescrFault, is_kind, law_one_kind, read_kind};
 pub use fault::FileFault;
 pub use kind::{Descr, Elem, Kind, Sort};
 pub use raw::attribute::{BootRow, CatchRow, RawAttr, RawBody, RawCode, RawIns};
