@@ -1,10 +1,12 @@
 -- The conditions on a file, head and fields apart.
-use Rattle.std.proofs.Common.{◌≡◌, ℕ, Bool, true, false, ◌&&◌, List, [], ltb, refl, sym, ap, ◌∙◌, IsTrue}
+use Rattle.std.proofs.Common.{◌≡◌, ℕ, Bool, true, false, ◌&&◌, List, [], ltb, refl, sym, ap, ◌∙◌, Option, Some, None, IsTrue}
+use Rattle.std.proofs.lemmas.Bool.{and_parts}
+use Rattle.std.specs.Option.{is_some}
 use Rattle.std.specs.List.{list_all}
 use Rattle.fp_model.specs.declared.raw.pool.Entry.{Entry}
 use Rattle.fp_model.specs.declared.raw.Raw.{Raw}
 use Rattle.fp_model.specs.declared.raw.RawMember.{RawMember}
-use Rattle.fp_model.specs.Thin.{is_version, is_sound_entry, is_class_index, is_parent, is_sound_field, has_no_repeat, is_sound}
+use Rattle.fp_model.specs.Thin.{passes, is_version, is_sound_entry, is_class_index, is_parent, is_sound_field, has_no_repeat, is_sound}
 
 regroup : (a b c d e f rest : Bool) → ((a && (b && (c && (d && (e && f))))) && rest) ≡ (a && (b && (c && (d && (e && (f && rest))))))
 regroup false b c d e f rest = refl
@@ -55,3 +57,26 @@ pub sound_fields : (raw : Raw) (entries : List Entry) (fields : List RawMember) 
 sound_fields raw entries fields sound is tested passed all =
     let at : list_all (is_sound_field entries) raw.fields ≡ true = sym (tested ∙ ap (list_all (is_sound_field entries)) is) ∙ passed in
     ap (has_no_repeat entries []) is ∙ sym (ap (λ b. b && has_no_repeat entries [] raw.fields) at) ∙ all
+
+-- what a sound file has
+pub record SoundParts (raw : Raw) : Type 0 where
+  pub this : is_class_index raw.pool.entries raw.this ≡ true
+  pub interfaces : list_all (is_class_index raw.pool.entries) raw.interfaces ≡ true
+  pub fields : list_all (is_sound_field raw.pool.entries) raw.fields ≡ true
+
+pub sound_of : (raw : Raw) → is_sound raw ≡ true → SoundParts raw
+sound_of raw sound =
+    let entries = raw.pool.entries in
+    let s1 = and_parts (is_version raw.major raw.minor) _ sound in
+    let s2 = and_parts (list_all (is_sound_entry entries) entries) _ s1.1 in
+    let s3 = and_parts (ltb raw.flags 0x8000) _ s2.1 in
+    let s4 = and_parts (is_class_index entries raw.this) _ s3.1 in
+    let s5 = and_parts (is_parent entries raw.this raw.parent) _ s4.1 in
+    let s6 = and_parts (list_all (is_class_index entries) raw.interfaces) _ s5.1 in
+    let s7 = and_parts (list_all (is_sound_field entries) raw.fields) (has_no_repeat entries [] raw.fields) s6.1 in
+    record { this = s4.0; interfaces = s6.0; fields = s7.0 }
+
+-- what passes a test is there
+pub passes-is_some : {A : Type 0} (test : A → Bool) (o : Option A) → passes test o ≡ true → is_some o ≡ true
+passes-is_some test None h = absurd (cc)
+passes-is_some test (Some x) h = refl

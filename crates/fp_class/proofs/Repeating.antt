@@ -22,11 +22,11 @@ key_equal : (a b : Key) → is_eq (key_cmp a b) ≡ ((a.name == b.name) && (a.de
 key_equal a b = grind (arith, nat_tests)
 
 -- the texts of a sound field
-record HasTexts (entries : List Entry) (field : RawMember) : Type 0 where
-  name : List ℕ
-  descr : List ℕ
-  name_is : text_at entries field.name ≡ Some name
-  descr_is : text_at entries field.descr ≡ Some descr
+pub record HasTexts (entries : List Entry) (field : RawMember) : Type 0 where
+  pub name : List ℕ
+  pub descr : List ℕ
+  pub name_is : text_at entries field.name ≡ Some name
+  pub descr_is : text_at entries field.descr ≡ Some descr
 
 some_of : {A : Type 0} (o : Option A) → is_some o ≡ true → (x : A) × (o ≡ Some x)
 some_of None h = absurd (cc)
@@ -36,7 +36,7 @@ passed_by : {A : Type 0} (test : A → Bool) (o : Option A) → passes test o �
 passed_by test None h = absurd (cc)
 passed_by test (Some x) h = (x, refl)
 
-texts_of : (entries : List Entry) (field : RawMember) → is_sound_field entries field ≡ true → HasTexts entries field
+pub texts_of : (entries : List Entry) (field : RawMember) → is_sound_field entries field ≡ true → HasTexts entries field
 texts_of entries field sound =
     let parts = and_parts (is_some (text_at entries field.name)) (passes is_field_descriptor (text_at entries field.descr)) sound in
     let name = some_of (text_at entries field.name) parts.0 in

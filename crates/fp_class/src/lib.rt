@@ -2,10 +2,12 @@
 #![tactic(auto)]
 
 mod entries;
+mod naming;
 mod parts;
 mod pool;
 mod reader;
 mod repeats;
 mod soundness;
 
+pub use naming::to_class;
 pub use reader::{law_spelling, read_class};

@@ -1,6 +1,7 @@
 pub mod ArrayTypes
 pub mod ElementTexts
 pub mod EndedNames
+pub mod LongerTables
 pub mod Many
 pub mod OneKind
 pub mod Readers
