@@ -1,16 +1,14 @@
 -- A thin class file is read from its spelling, and what is read is spelled so.
-use Rattle.std.proofs.Common.{◌≡◌, ℕ, ◌+◌, ◌<◌, ◌≤◌, ◌^◌, Bool, true, ◌&&◌, List, [], ◌∷◌, ◌++◌, Result, Ok, Err, IfOk, IsTrue, length, ltb, ◌==◌, refl, sym, ap, ◌∙◌, subst, arith, eq-eqb}
+use Rattle.std.proofs.Common.{◌≡◌, ℕ, ◌<◌, ◌≤◌, ◌^◌, ◌&&◌, List, [], ◌∷◌, ◌++◌, Result, Ok, Err, IfOk, IsTrue, length, ltb, ◌==◌, refl, sym, ap, ◌∙◌, subst, arith, eq-eqb}
 use Rattle.std.proofs.lemmas.Bool.{and_parts, and_from, eqb-true, ltb-true}
 use Rattle.std.proofs.lemmas.List.{nil_from_length}
-use Rattle.std.specs.List.{list_all, flat_map}
+use Rattle.std.specs.List.{list_all}
 use Rattle.std.specs.Int.{w16, w32}
 use Rattle.fp_model.specs.declared.fault.FileFault.{FileFault}
 use Rattle.fp_model.specs.declared.raw.pool.Entry.{Entry}
 use Rattle.fp_model.specs.declared.raw.pool.Entry.TheVariants as entry
 use Rattle.fp_model.specs.declared.raw.Raw.{Raw}
-use Rattle.fp_model.specs.declared.raw.RawMember.{RawMember}
-use Rattle.fp_model.specs.declared.raw.attribute.RawAttr.{RawAttr}
-use Rattle.fp_model.specs.Reading.{◌>>=◌, Gives, unbuilt, demanded, number_at, counted_at, nothing_at}
+use Rattle.fp_model.specs.Reading.{Gives, unbuilt, demanded, number_at, counted_at, nothing_at}
 use Rattle.fp_model.specs.Spelling.{u2, u4, counted, spelled_pool, spelled_member, spelled_attr, spelled}
 use Rattle.fp_model.specs.Thin.{is_u2, is_thin_entry, is_thin_pool, is_bare, has_thin_form, is_sound, IsThin, pool_at, field_at, parts_of, class_of}
 use Rattle.fp_model.proofs.Takes.{Takes, Takes-then, Takes-split, Takes-whole, Takes-all}
@@ -40,26 +38,27 @@ parts_taken bytes below raw e =
     opened (nothing_at bytes fields.1) _ (λ methods e10 r10.
     opened (nothing_at bytes methods) _ (λ end e11 r11.
     opened (demanded (end == length bytes) unbuilt) _ (λ v whole last.
-        let is : record { minor = minor.0; major = major.0; pool = pool.0; flags = flags.0; this = this.0; parent = parent.0; interfaces = interfaces.0; fields = fields.0; methods = []; attributes = [] } ≡ raw = cc in
-        let first : Takes bytes 0 (u4 0xCAFEBABE) magic.1 = subst (λ n. Takes bytes 0 (u4 n) magic.1) (eqb-true magic.0 0xCAFEBABE (demanded-true (magic.0 == 0xCAFEBABE) unbuilt passed)) (u4_takes bytes below 0 magic e0) in
-        let t2 = (reads_u2 bytes).takes below magic.1 minor e2 in
-        let t3 = (reads_u2 bytes).takes below minor.1 major e3 in
-        let t4 = (reads_pool bytes).takes below major.1 pool e4 in
-        let t5 = (reads_u2 bytes).takes below pool.1 flags e5 in
-        let t6 = (reads_u2 bytes).takes below flags.1 this e6 in
-        let t7 = (reads_u2 bytes).takes below this.1 parent e7 in
-        let t8 = (reads_indexes bytes).takes below parent.1 interfaces e8 in
-        let t9 = (reads_fields bytes).takes below interfaces.1 fields e9 in
-        let p8 = and_parts (is_u2 (length interfaces.0)) (list_all is_u2 interfaces.0) t8.0 in
-        let p9 = and_parts (is_u2 (length fields.0)) (list_all is_bare fields.0) t9.0 in
-        let t10 = nothing_takes bytes below fields.1 methods e10 in
-        let t11 = subst (Takes bytes methods (u2 0)) (eqb-true end (length bytes) (demanded-true (end == length bytes) unbuilt whole)) (nothing_takes bytes below methods end e11) in
-        subst (λ r. IsTrue (has_thin_form r) × Takes bytes 0 (spelled r) (length bytes)) is
-        (and_from (is_u2 minor.0) _ t2.0 (and_from (is_u2 major.0) _ t3.0 (and_from (is_thin_pool pool.0.entries) _ t4.0
-        (and_from (is_u2 flags.0) _ t5.0 (and_from (is_u2 this.0) _ t6.0 (and_from (is_u2 parent.0) _ t7.0
-        (and_from (is_u2 (length interfaces.0)) _ p8.0 (and_from (list_all is_u2 interfaces.0) _ p8.1
-        (and_from (is_u2 (length fields.0)) _ p9.0 (and_from (list_all is_bare fields.0) _ p9.1 refl))))))))),
-        Takes-then first (Takes-then t2.1 (Takes-then t3.1 (Takes-then t4.1 (Takes-then t5.1 (Takes-then t6.1 (Takes-then t7.1 (Takes-then t8.1 (Takes-then t9.1 (Takes-then t10 t11))))))))))
+    let is : record { minor = minor.0; major = major.0; pool = pool.0; flags = flags.0; this = this.0; parent = parent.0; interfaces = interfaces.0; fields = fields.0; methods = []; attributes = [] } ≡ raw = cc in
+    let first : Takes bytes 0 (u4 0xCAFEBABE) magic.1 = subst (λ n. Takes bytes 0 (u4 n) magic.1) (eqb-true magic.0 0xCAFEBABE (demanded-true (magic.0 == 0xCAFEBABE) unbuilt passed)) (u4_takes bytes below 0 magic e0) in
+    let t2 = (reads_u2 bytes).takes below magic.1 minor e2 in
+    let t3 = (reads_u2 bytes).takes below minor.1 major e3 in
+    let t4 = (reads_pool bytes).takes below major.1 pool e4 in
+    let t5 = (reads_u2 bytes).takes below pool.1 flags e5 in
+    let t6 = (reads_u2 bytes).takes below flags.1 this e6 in
+    let t7 = (reads_u2 bytes).takes below this.1 parent e7 in
+    let t8 = (reads_indexes bytes).takes below parent.1 interfaces e8 in
+    let t9 = (reads_fields bytes).takes below interfaces.1 fields e9 in
+    let p8 = and_parts (is_u2 (length interfaces.0)) (list_all is_u2 interfaces.0) t8.0 in
+    let p9 = and_parts (is_u2 (length fields.0)) (list_all is_bare fields.0) t9.0 in
+    let t10 = nothing_takes bytes below fields.1 methods e10 in
+    let t11 = subst (Takes bytes methods (u2 0)) (eqb-true end (length bytes) (demanded-true (end == length bytes) unbuilt whole)) (nothing_takes bytes below methods end e11) in
+    subst (λ r. IsTrue (has_thin_form r) × Takes bytes 0 (spelled r) (length bytes)) is (
+      and_from (is_u2 minor.0) _ t2.0 (and_from (is_u2 major.0) _ t3.0 (and_from (is_thin_pool pool.0.entries) _ t4.0
+          (and_from (is_u2 flags.0) _ t5.0 (and_from (is_u2 this.0) _ t6.0 (and_from (is_u2 parent.0) _ t7.0
+          (and_from (is_u2 (length interfaces.0)) _ p8.0 (and_from (list_all is_u2 interfaces.0) _ p8.1
+          (and_from (is_u2 (length fields.0)) _ p9.0 (and_from (list_all is_bare fields.0) _ p9.1 refl))))))))),
+      Takes-then first (Takes-then t2.1 (Takes-then t3.1 (Takes-then t4.1 (Takes-then t5.1 (Takes-then t6.1 (Takes-then t7.1 (Takes-then t8.1 (Takes-then t9.1 (Takes-then t10 t11))))))))),
+    )
     ) r11) r10) r9) r8) r7) r6) r5) r4) r3) r2) r1) r0) e
 
 -- the parts of a form, one by one
@@ -126,20 +125,20 @@ module _ (bytes : List ℕ) (raw : Raw) (form : Form raw) where
       Takes-split (u2 raw.parent) _ (λ g t6 r6.
       Takes-split (counted u2 raw.interfaces) _ (λ h t7 r7.
       Takes-split (counted spelled_member raw.fields) _ (λ i t8 r8.
-          let end = end_again i r8 in
-          stepped (number_at w32 bytes 0) _ (0xCAFEBABE, a) (u4_again bytes 0 0xCAFEBABE a (omega arith) t0)
-          (stepped (number_at w16 bytes a) _ (raw.minor, b) ((reads_u2 bytes).again a raw.minor b form.minor t1)
-          (stepped (number_at w16 bytes b) _ (raw.major, c) ((reads_u2 bytes).again b raw.major c form.major t2)
-          (stepped (pool_at bytes c) _ (raw.pool, d) ((reads_pool bytes).again c raw.pool d form.pool t3)
-          (stepped (number_at w16 bytes d) _ (raw.flags, e) ((reads_u2 bytes).again d raw.flags e form.flags t4)
-          (stepped (number_at w16 bytes e) _ (raw.this, f) ((reads_u2 bytes).again e raw.this f form.this t5)
-          (stepped (number_at w16 bytes f) _ (raw.parent, g) ((reads_u2 bytes).again f raw.parent g form.parent t6)
-          (stepped (counted_at (number_at w16 bytes) bytes g) _ (raw.interfaces, h) ((reads_indexes bytes).again g raw.interfaces h form.interfaces t7)
-          (stepped (counted_at (field_at bytes) bytes h) _ (raw.fields, i) ((reads_fields bytes).again h raw.fields i form.fields t8)
-          (stepped (nothing_at bytes i) _ end.0 end.1
-          (stepped (nothing_at bytes end.0) _ (length bytes) end.2
-          (stepped (demanded (length bytes == length bytes) unbuilt) _ tt (demanded-Ok (length bytes == length bytes) unbuilt (eq-eqb (length bytes) (length bytes) refl))
-          (ap Ok bare))))))))))))
+      let end = end_again i r8 in
+      stepped (number_at w32 bytes 0) _ (0xCAFEBABE, a) (u4_again bytes 0 0xCAFEBABE a (omega arith) t0)
+      (stepped (number_at w16 bytes a) _ (raw.minor, b) ((reads_u2 bytes).again a raw.minor b form.minor t1)
+      (stepped (number_at w16 bytes b) _ (raw.major, c) ((reads_u2 bytes).again b raw.major c form.major t2)
+      (stepped (pool_at bytes c) _ (raw.pool, d) ((reads_pool bytes).again c raw.pool d form.pool t3)
+      (stepped (number_at w16 bytes d) _ (raw.flags, e) ((reads_u2 bytes).again d raw.flags e form.flags t4)
+      (stepped (number_at w16 bytes e) _ (raw.this, f) ((reads_u2 bytes).again e raw.this f form.this t5)
+      (stepped (number_at w16 bytes f) _ (raw.parent, g) ((reads_u2 bytes).again f raw.parent g form.parent t6)
+      (stepped (counted_at (number_at w16 bytes) bytes g) _ (raw.interfaces, h) ((reads_indexes bytes).again g raw.interfaces h form.interfaces t7)
+      (stepped (counted_at (field_at bytes) bytes h) _ (raw.fields, i) ((reads_fields bytes).again h raw.fields i form.fields t8)
+      (stepped (nothing_at bytes i) _ end.0 end.1
+      (stepped (nothing_at bytes end.0) _ (length bytes) end.2
+      (stepped (demanded (length bytes == length bytes) unbuilt) _ tt (demanded-Ok (length bytes == length bytes) unbuilt (eq-eqb (length bytes) (length bytes) refl))
+      (ap Ok bare))))))))))))
       ) r7) r6) r5) r4) r3) r2) r1) r0) p
 
 -- what is read is a thin class file, and the bytes are its spelling
@@ -148,11 +147,11 @@ unfolding class_of
 class_taken bytes below short raw e =
     opened (parts_of bytes) _ (λ found parts more.
     opened (demanded (is_sound found) unbuilt) _ (λ u passed last.
-        let is : found ≡ raw = cc in
-        let taken = parts_taken bytes below found parts in
-        let same : spelled found ≡ bytes = Takes-whole bytes (spelled found) taken.1 in
-        subst (λ r. IsThin r × (spelled r ≡ bytes)) is
-        (record { form = taken.0; sound = demanded-true (is_sound found) unbuilt passed; short = subst (λ text. length text < 2 ^ 32) (sym same) short }, same)) more) e
+    let is : found ≡ raw = cc in
+    let taken = parts_taken bytes below found parts in
+    let same : spelled found ≡ bytes = Takes-whole bytes (spelled found) taken.1 in
+    subst (λ r. IsThin r × (spelled r ≡ bytes)) is
+    (record { form = taken.0; sound = demanded-true (is_sound found) unbuilt passed; short = subst (λ text. length text < 2 ^ 32) (sym same) short }, same)) more) e
 
 -- a thin class file is read from its spelling
 pub class_again : (raw : Raw) → IsThin raw → class_of (spelled raw) ≡ Ok raw

@@ -1,5 +1,5 @@
 -- The parts of a class in numbers of a table of names.
-use Rattle.std.proofs.Common.{◌≡◌, inl, inr, ℕ, ◌+◌, true, Bool, take, drop, ltb, zero, suc, ◌<◌, List, [], ◌∷◌, ◌++◌, map, Option, Some, None, length, refl, sym, ap, ◌∙◌, subst, arith}
+use Rattle.std.proofs.Common.{◌≡◌, inl, inr, ℕ, ◌+◌, true, drop, ltb, zero, suc, ◌<◌, List, [], ◌∷◌, ◌++◌, map, Option, Some, None, length, refl, sym, ap, ◌∙◌, subst, arith}
 use Rattle.std.proofs.lemmas.List.Elements.{All-nil, All-cons}
 use Rattle.std.proofs.lemmas.Bool.{and_parts, both_ways, cases_lt, ltb-true}
 use Rattle.std.proofs.lemmas.List.{take-append-drop}
@@ -13,8 +13,8 @@ use Rattle.fp_model.specs.declared.raw.RawMember.{RawMember}
 use Rattle.fp_model.specs.declared.raw.Raw.{Raw}
 use Rattle.fp_model.specs.declared.class.Field.{Field}
 use Rattle.fp_model.specs.Classes.{field_names, raw_names, IsFieldOf, IsClassOf}
-use Rattle.fp_model.specs.ClassSet.{IsFieldOver, IsMethodOver, IsClassOver}
-use Rattle.fp_model.specs.Descriptor.{text_of, is_field_descriptor, IsBadAt, IsKindOf}
+use Rattle.fp_model.specs.ClassSet.{IsFieldOver, IsMethodOver}
+use Rattle.fp_model.specs.Descriptor.{is_field_descriptor, IsBadAt, IsKindOf}
 use Rattle.fp_model.specs.Thin.{text_in, text_at, class_name_at, is_thin_entry, is_thin_pool, is_sound_field}
 use Rattle.fp_model.proofs.LongerTables.{Keeps, IsKindOf-kept}
 use Rattle.fp_class.proofs.Repeating.{texts_of}
@@ -100,8 +100,8 @@ names_of names entries (n ∷ numbers) (i ∷ indexes) all =
     ∙ ap (λ l. class_name_at entries i ∷ l) (names_of names entries numbers indexes all.1)
 
 class_made : (names : List (List ℕ)) (raw : Raw) (name : ℕ) (parent : Option ℕ) (interfaces : List ℕ) (fields : List Field)
-  → IsClassName names raw.pool.entries name raw.this → IsParentName names raw.pool.entries parent raw.parent → AllZip (IsClassName names raw.pool.entries) interfaces raw.interfaces → AllZip (IsNamedField names raw.pool.entries) fields raw.fields
-  → IsClassOf names (record { name = name; parent = parent; interfaces = interfaces; flags = raw.flags; fields = fields; methods = [] }) raw
+    → IsClassName names raw.pool.entries name raw.this → IsParentName names raw.pool.entries parent raw.parent → AllZip (IsClassName names raw.pool.entries) interfaces raw.interfaces → AllZip (IsNamedField names raw.pool.entries) fields raw.fields
+    → IsClassOf names (record { name = name; parent = parent; interfaces = interfaces; flags = raw.flags; fields = fields; methods = [] }) raw
 class_made names raw name parent interfaces fields this above others members =
     let entries = raw.pool.entries in
     record {
@@ -122,25 +122,25 @@ class_made names raw name parent interfaces fields this above others members =
 
 -- parts that were named one after the other, over tables that grew
 pub class_over : (raw : Raw) (entries : List Entry) (indexes : List ℕ) (members : List RawMember) (n1 n2 n3 n4 : List (List ℕ)) (name : ℕ) (parent : Option ℕ) (interfaces : List ℕ) (fields : List Field) (methods : List Method)
-  → entries ≡ raw.pool.entries → indexes ≡ raw.interfaces → members ≡ raw.fields → methods ≡ []
-  → IsClassName n1 entries name raw.this → Keeps n1 n2 → IsParentName n2 entries parent raw.parent → Keeps n2 n3 → AllZip (IsClassName n3 entries) interfaces indexes → Keeps n3 n4 → AllZip (IsNamedField n4 entries) fields members
-  → IsClassOf n4 (record { name = name; parent = parent; interfaces = interfaces; flags = raw.flags; fields = fields; methods = methods }) raw
+    → entries ≡ raw.pool.entries → indexes ≡ raw.interfaces → members ≡ raw.fields → methods ≡ []
+    → IsClassName n1 entries name raw.this → Keeps n1 n2 → IsParentName n2 entries parent raw.parent → Keeps n2 n3 → AllZip (IsClassName n3 entries) interfaces indexes → Keeps n3 n4 → AllZip (IsNamedField n4 entries) fields members
+    → IsClassOf n4 (record { name = name; parent = parent; interfaces = interfaces; flags = raw.flags; fields = fields; methods = methods }) raw
 class_over raw entries indexes members n1 n2 n3 n4 name parent interfaces fields methods is i_is m_is none this k12 above k23 others k34 all =
     let k24 = Keeps-then n2 n3 n4 k23 k34 in
     let k14 = Keeps-then n1 n2 n4 k12 k24 in
     let made = class_made n4 raw name parent interfaces fields
-        (subst (λ e. IsClassName n4 e name raw.this) is (IsClassName-kept n1 n4 entries name raw.this k14 this))
-        (subst (λ e. IsParentName n4 e parent raw.parent) is (IsParentName-kept n2 n4 entries parent raw.parent k24 above))
-        (subst (AllZip (IsClassName n4 raw.pool.entries) interfaces) i_is
-        (subst (λ e. AllZip (IsClassName n4 e) interfaces indexes) is
-        (AllZip-to (IsClassName n3 entries) (IsClassName n4 entries) interfaces indexes (λ n index one. IsClassName-kept n3 n4 entries n index k34 one) others)))
-        (subst (AllZip (IsNamedField n4 raw.pool.entries) fields) m_is (subst (λ e. AllZip (IsNamedField n4 e) fields members) is all)) in
+    (subst (λ e. IsClassName n4 e name raw.this) is (IsClassName-kept n1 n4 entries name raw.this k14 this))
+    (subst (λ e. IsParentName n4 e parent raw.parent) is (IsParentName-kept n2 n4 entries parent raw.parent k24 above))
+    (subst (AllZip (IsClassName n4 raw.pool.entries) interfaces) i_is
+    (subst (λ e. AllZip (IsClassName n4 e) interfaces indexes) is
+    (AllZip-to (IsClassName n3 entries) (IsClassName n4 entries) interfaces indexes (λ n index one. IsClassName-kept n3 n4 entries n index k34 one) others)))
+    (subst (AllZip (IsNamedField n4 raw.pool.entries) fields) m_is (subst (λ e. AllZip (IsNamedField n4 e) fields members) is all)) in
     subst (λ l. IsClassOf n4 (record { name = name; parent = parent; interfaces = interfaces; flags = raw.flags; fields = fields; methods = l }) raw) (sym none) made
 
 -- a field whose texts were numbered one after the other
 pub field_named : (n1 n2 n3 : List (List ℕ)) (entries : List Entry) (member : RawMember) (name descr : ℕ) (k : Kind) → is_sound_field entries member ≡ true
-  → slice_get n1 name ≡ text_at entries member.name → Keeps n1 n2 → slice_get n2 descr ≡ text_at entries member.descr → Keeps n2 n3 → IsKindOf n3 (unwrap_or (text_at entries member.descr) []) k
-  → IsNamedField n3 entries (record { name = name; descr = descr; kind = k; flags = member.flags }) member
+    → slice_get n1 name ≡ text_at entries member.name → Keeps n1 n2 → slice_get n2 descr ≡ text_at entries member.descr → Keeps n2 n3 → IsKindOf n3 (unwrap_or (text_at entries member.descr) []) k
+    → IsNamedField n3 entries (record { name = name; descr = descr; kind = k; flags = member.flags }) member
 field_named n1 n2 n3 entries member name descr k sound first k12 second k23 says =
     let texts = texts_of entries member sound in
     record {
@@ -156,7 +156,7 @@ field_named n1 n2 n3 entries member name descr k sound first k12 second k23 says
 
 -- the texts of a class by its parts
 pub texts_whole : (raw : Raw) (entries : List Entry) (indexes : List ℕ) (members : List RawMember) → entries ≡ raw.pool.entries → indexes ≡ raw.interfaces → members ≡ raw.fields
-  → (option_to_list (class_name_at entries raw.this) ++ (option_to_list (class_name_at entries raw.parent) ++ (flat_map (λ index. option_to_list (class_name_at entries index)) indexes ++ flat_map (field_names entries) members))) ≡ raw_names raw
+    → (option_to_list (class_name_at entries raw.this) ++ (option_to_list (class_name_at entries raw.parent) ++ (flat_map (λ index. option_to_list (class_name_at entries index)) indexes ++ flat_map (field_names entries) members))) ≡ raw_names raw
 texts_whole raw entries indexes members is i_is m_is =
     ap (λ l. option_to_list (class_name_at entries raw.this) ++ (option_to_list (class_name_at entries raw.parent) ++ (flat_map (λ index. option_to_list (class_name_at entries index)) l ++ flat_map (field_names entries) members))) i_is
     ∙ ap (λ l. option_to_list (class_name_at entries raw.this) ++ (option_to_list (class_name_at entries raw.parent) ++ (flat_map (λ index. option_to_list (class_name_at entries index)) raw.interfaces ++ flat_map (field_names entries) l))) m_is

@@ -1,5 +1,5 @@
 -- Texts taken into a table of names, one after the other.
-use Rattle.std.proofs.Common.{◌≡◌, ℕ, cond, suc, ◌+◌, ◌<◌, Bool, true, false, ◌||◌, not, List, [], ◌∷◌, ◌++◌, Result, Ok, Err, IfOk, OnErr, IsTrue, Some, length, get_or, take, drop, refl, sym, ap, ◌∙◌, subst, arith}
+use Rattle.std.proofs.Common.{◌≡◌, ℕ, cond, ◌+◌, ◌<◌, false, ◌||◌, not, List, [], ◌∷◌, ◌++◌, Result, Ok, Err, IfOk, OnErr, Some, length, get_or, take, drop, refl, sym, ap, ◌∙◌, subst, arith}
 use Rattle.std.specs.Result.{IsErrOf, is_ok, is_err}
 use Rattle.std.specs.List.{list_any, flat_map, slice_get}
 use Rattle.std.proofs.lemmas.Bool.{or_left, or_right}

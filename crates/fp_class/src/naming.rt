@@ -15,12 +15,7 @@ use sqlite_items::Items;
 use std::alloc::Global;
 
 /// The number of the text at an index.
-fn text(
-    alloc: Global,
-    entries: &[Entry],
-    index: u16,
-    names: &mut Names,
-) -> Result<u32, NameFault>
+fn text(alloc: Global, entries: &[Entry], index: u16, names: &mut Names) -> Result<u32, NameFault>
     requires { is_some (text_at entries.now index) ≡ true }
     ensures number { IfOk result (λ n. slice_get names.new n ≡ text_at entries.now index) }
     ensures names { Interned result names.old names.new (unwrap_or (text_at entries.now index) [] ∷ []) }
@@ -190,11 +185,7 @@ fn class(alloc: Global, raw: &Raw, names: &mut Names) -> Result<Class, NameFault
 /// The class of a thin class file, in numbers of the table; its texts are taken into the table.
 ///
 /// The class is there where the file is no module. On a fault the table may have grown.
-pub fn to_class(
-    alloc: Global,
-    raw: &Raw,
-    names: &mut Names,
-) -> Result<Option<Class>, NameFault>
+pub fn to_class(alloc: Global, raw: &Raw, names: &mut Names) -> Result<Option<Class>, NameFault>
     requires { IsThin raw.now }
     // It is the class of the file.
     ensures class { IfOk result (λ c. IfSome c (λ class. IsClassOf names.new class raw.now)) }

@@ -73,12 +73,7 @@ fn interfaces(alloc: Global, bytes: &[u8], at: u32) -> Result<(Items<u16>, u32),
 }
 
 /// So many indexes.
-fn indexes(
-    alloc: Global,
-    bytes: &[u8],
-    at: u32,
-    count: u16,
-) -> Result<(Items<u16>, u32), FileFault>
+fn indexes(alloc: Global, bytes: &[u8], at: u32, count: u16) -> Result<(Items<u16>, u32), FileFault>
     requires { length bytes.now < 2 ^ 32 }
     ensures { Gives result (many_at (number_at w16 bytes.now) count [] at) }
 {

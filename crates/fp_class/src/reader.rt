@@ -42,5 +42,4 @@ fn sound_parts(alloc: Global, bytes: &[u8]) -> Result<Raw, FileFault>
 /// No two thin class files have one spelling.
 pub fn law_spelling()
     ensures { (a : Raw) → (b : Raw) → IsThin a → IsThin b → spelled a ≡ spelled b → a ≡ b }
-{
-}
+{}

@@ -109,14 +109,12 @@ fn are_sound_fields(entries: &[Entry], fields: &[RawMember]) -> bool
 
 /// Whether all is sound but the fields.
 fn is_sound_head(entries: &[Entry], raw: &Raw) -> bool
-    ensures {
-        result ≡ (thin.is_version raw.now.major raw.now.minor
+    ensures { result ≡ (thin.is_version raw.now.major raw.now.minor
         && (list_all (thin.is_sound_entry entries.now) entries.now
         && (nat_lt raw.now.flags MODULE
         && (thin.is_class_index entries.now raw.now.this
         && (thin.is_parent entries.now raw.now.this raw.now.parent
-        && list_all (thin.is_class_index entries.now) raw.now.interfaces)))))
-    }
+        && list_all (thin.is_class_index entries.now) raw.now.interfaces))))) }
 {
     is_version(raw.major, raw.minor)
         && are_sound_entries(entries)

@@ -71,9 +71,10 @@ u2_takes bytes all at n next e =
     let size : length run ≡ 2 = length-take-le 2 (drop at bytes) (omega (arith, found.0, length-drop at bytes)) in
     let number : n ≡ from_be_bytes w16 run = ap (λ (p : ℕ × ℕ). p.0) found.1 in
     let end : at + 2 ≡ next = sym (ap (λ (p : ℕ × ℕ). p.1) found.1) in
-    let spelled : run ≡ u2 n = sym (be_bytes_2 run n size below number) in
-    (lt-ltb n 65536 (omega (arith, number, below_2 run below)),
-    subst (λ text. Takes bytes at text next) spelled (subst (Takes bytes at run) end (Takes-run bytes at 2 found.0)))
+    let spelled : run ≡ u2 n = sym (be_bytes_2 run n size below number) in (
+      lt-ltb n 65536 (omega (arith, number, below_2 run below)),
+      subst (λ text. Takes bytes at text next) spelled (subst (Takes bytes at run) end (Takes-run bytes at 2 found.0)),
+    )
 
 u2_again : (bytes : List ℕ) (at n next : ℕ) → IsTrue (is_u2 n) → Takes bytes at (u2 n) next → number_at w16 bytes at ≡ Ok (n, next)
 u2_again bytes at n next small p =
@@ -174,15 +175,15 @@ module _ {A : Type 0} (bytes : List ℕ) (form : A → Bool) (spelled : A → Li
       }
   many_takes below (suc n) at before x e =
       opened (read at) _ (λ y ey rest.
-          let adds = many_takes below n y.1 (before ++ y.0 ∷ []) x rest in
-          let one = reader.takes below at y ey in
-          record {
-            more = y.0 ∷ adds.more;
-            all = adds.all ∙ append_assoc before (y.0 ∷ []) adds.more;
-            size = ap suc adds.size;
-            formed = and_from (form y.0) (list_all form adds.more) one.0 adds.formed;
-            takes = Takes-then one.1 adds.takes;
-          }) e
+      let adds = many_takes below n y.1 (before ++ y.0 ∷ []) x rest in
+      let one = reader.takes below at y ey in
+      record {
+        more = y.0 ∷ adds.more;
+        all = adds.all ∙ append_assoc before (y.0 ∷ []) adds.more;
+        size = ap suc adds.size;
+        formed = and_from (form y.0) (list_all form adds.more) one.0 adds.formed;
+        takes = Takes-then one.1 adds.takes;
+      }) e
 
   pub many_again : (xs : List A) (at next : ℕ) (before : List A) → IsTrue (list_all form xs) → Takes bytes at (flat_map spelled xs) next → many_at read (length xs) before at ≡ Ok (before ++ xs, next)
   unfolding many_at
@@ -199,11 +200,11 @@ module _ {A : Type 0} (bytes : List ℕ) (form : A → Bool) (spelled : A → Li
   unfolding counted_at
   counted_takes below at x e =
       opened (number_at w16 bytes at) _ (λ count counts rest.
-          let adds = many_takes below count.0 count.1 [] x rest in
-          let number = (reads_u2 bytes).takes below at count counts in
-          let formed : IsTrue (is_u2 (length adds.more) && list_all form adds.more) = and_from (is_u2 (length adds.more)) (list_all form adds.more) (ap is_u2 adds.size ∙ number.0) adds.formed in
-          let first : Takes bytes at (u2 (length adds.more)) count.1 = subst (λ n. Takes bytes at (u2 n) count.1) (sym adds.size) number.1 in
-          subst (λ xs. IsTrue (is_u2 (length xs) && list_all form xs) × Takes bytes at (counted spelled xs) x.1) (sym adds.all) (formed, Takes-then first adds.takes)) e
+      let adds = many_takes below count.0 count.1 [] x rest in
+      let number = (reads_u2 bytes).takes below at count counts in
+      let formed : IsTrue (is_u2 (length adds.more) && list_all form adds.more) = and_from (is_u2 (length adds.more)) (list_all form adds.more) (ap is_u2 adds.size ∙ number.0) adds.formed in
+      let first : Takes bytes at (u2 (length adds.more)) count.1 = subst (λ n. Takes bytes at (u2 n) count.1) (sym adds.size) number.1 in
+      subst (λ xs. IsTrue (is_u2 (length xs) && list_all form xs) × Takes bytes at (counted spelled xs) x.1) (sym adds.all) (formed, Takes-then first adds.takes)) e
 
   counted_again : (at : ℕ) (xs : List A) (next : ℕ) → IsTrue (is_u2 (length xs) && list_all form xs) → Takes bytes at (counted spelled xs) next → counted_at read bytes at ≡ Ok (xs, next)
   unfolding counted_at
@@ -223,9 +224,9 @@ unfolding nothing_at
 nothing_takes bytes below at next e =
     opened (number_at w16 bytes at) _ (λ count counts more.
     opened (demanded (count.0 == 0) unbuilt) _ (λ u passed last.
-        let none : count.0 ≡ 0 = eqb-true count.0 0 (demanded-true (count.0 == 0) unbuilt passed) in
-        let end : count.1 ≡ next = cc in
-        subst (λ n. Takes bytes at (u2 n) next) none (subst (Takes bytes at (u2 count.0)) end ((reads_u2 bytes).takes below at count counts).1)) more) e
+    let none : count.0 ≡ 0 = eqb-true count.0 0 (demanded-true (count.0 == 0) unbuilt passed) in
+    let end : count.1 ≡ next = cc in
+    subst (λ n. Takes bytes at (u2 n) next) none (subst (Takes bytes at (u2 count.0)) end ((reads_u2 bytes).takes below at count counts).1)) more) e
 
 pub nothing_again : (bytes : List ℕ) (at next : ℕ) → Takes bytes at (u2 0) next → nothing_at bytes at ≡ Ok next
 unfolding nothing_at

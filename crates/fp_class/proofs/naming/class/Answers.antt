@@ -1,12 +1,10 @@
-use Rattle.std.proofs.Common.{◌≡◌, ℕ, List, ◌++◌, true, not, Ok, Err, IsTrue, refl, sym, ap, ◌∙◌, subst}
+use Rattle.std.proofs.Common.{not, Ok, Err, refl, subst}
 use Rattle.std.proofs.lemmas.Result.{err_from_is_err_and}
-use Rattle.std.specs.List.{list_all, flat_map}
-use Rattle.std.specs.Option.{option_to_list, is_some}
+use Rattle.std.specs.List.{flat_map}
+use Rattle.std.specs.Option.{option_to_list}
 use Rattle.fp_model.specs.Classes.{field_names}
 use Rattle.fp_model.specs.Descriptor.{is_array_like}
-use Rattle.fp_model.specs.Thin.{class_name_at, is_sound_field}
-use Rattle.fp_model.specs.declared.class.Class.{Class}
-use Rattle.fp_base.specs.declared.names.NameFault.{NameFault}
+use Rattle.fp_model.specs.Thin.{class_name_at}
 use Rattle.fp_class.specs.Interning.{Interned}
 use Rattle.fp_class.proofs.Conditions.{sound_of, passes-is_some}
 use Rattle.fp_class.proofs.NamedParts.{class_over, texts_whole}

@@ -1,12 +1,9 @@
-use Rattle.std.proofs.Common.{◌≡◌, ◌<◌, ℕ, List, ◌∷◌, [], length, get_or, take, ◌+◌, ◌++◌, refl, sym, ap, ◌∙◌, subst, arith}
-use Rattle.std.proofs.lemmas.List.{take_more}
+use Rattle.std.proofs.Common.{◌<◌, ◌∷◌, [], length, take, ◌+◌, ◌++◌, sym, ◌∙◌, arith}
 use Rattle.std.proofs.lemmas.Result.{err_from_is_err_and}
-use Rattle.std.specs.List.{AllZip, flat_map}
+use Rattle.std.specs.List.{flat_map}
 use Rattle.fp_model.specs.Classes.{field_names}
-use Rattle.fp_model.specs.Thin.{is_sound_field}
 use Rattle.fp_class.specs.Interning.{IsNamedField}
 use Rattle.fp_class.proofs.NamedParts.{AllZip-to, AllZip-more, IsNamedField-kept}
-use Rattle.fp_class.proofs.Repeating.{test_at}
 use Rattle.fp_class.proofs.Tables.{all_interned, front_of, interned_lost, kept_by, names_more, pushed, one_stops}
 use Rattle.fp_class.proofs.naming.fields.Goals as goal
 

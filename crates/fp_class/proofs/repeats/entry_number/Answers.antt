@@ -1,4 +1,3 @@
-use Rattle.std.proofs.Common.{◌≤◌, ◌+◌, length, ap, arith}
 use Rattle.fp_class.proofs.Numberings.{with_name-few}
 use Rattle.fp_class.proofs.repeats.entry_number.Goals as goal
 

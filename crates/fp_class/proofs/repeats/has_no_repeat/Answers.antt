@@ -1,4 +1,4 @@
-use Rattle.std.proofs.Common.{◌≡◌, ◌<◌, Bool, true, false, [], length, arith, sym, ap, ◌∙◌}
+use Rattle.std.proofs.Common.{◌≡◌, ◌<◌, true, [], length, arith, ap, ◌∙◌}
 use Rattle.fp_model.specs.Thin.{is_sound_field, has_no_repeat}
 use Rattle.fp_class.specs.Keys.{key_of}
 use Rattle.fp_class.proofs.Repeating.{key_within, test_at, stops, goes_on, key_seen, was_seen, was_new}

@@ -1,4 +1,4 @@
-use Rattle.std.proofs.Common.{◌≡◌, ◌<◌, Some, length, slice_get, refl, arith}
+use Rattle.std.proofs.Common.{◌<◌, length, refl, arith}
 use Rattle.std.proofs.lemmas.Option.{slice_get_read}
 use Rattle.fp_class.proofs.Numberings.{one_numbered, all_numbered}
 use Rattle.fp_class.proofs.repeats.number_texts.Goals as goal
