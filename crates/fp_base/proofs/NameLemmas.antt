@@ -1,14 +1,15 @@
 -- What the table of names keeps while texts are interned.
-use Rattle.std.proofs.Common.{◌≡◌, ◌⊎◌, inl, inr, ℕ, zero, suc, ◌<◌, Bool, true, false, ◌||◌, cond, List, [], ◌∷◌, ◌++◌, Some, length, get_or, refl, sym, ap, ◌∙◌, arith, length-append}
+use Rattle.std.proofs.Common.{◌≡◌, ◌⊎◌, inl, inr, ℕ, zero, suc, ◌<◌, ◌≤◌, Bool, true, false, ◌||◌, cond, List, [], ◌∷◌, ◌++◌, Some, length, get_or, refl, sym, ap, ◌∙◌, arith, length-append}
 use Rattle.std.proofs.lemmas.Grind.{fold-append}
 use Rattle.std.proofs.lemmas.Option.{slice_get-get_or}
 use Rattle.std.proofs.lemmas.List.{get_or_append_left, append_assoc, append-nil}
-use Rattle.std.proofs.lemmas.List.Folds.{list_any-append, Any-from_list_any}
+use Rattle.std.proofs.lemmas.List.Folds.{list_any-append, list_any_at, Any-from_list_any}
+use Rattle.std.proofs.lemmas.List.Elements.{All-head, All-tail}
 use Rattle.std.proofs.lemmas.List.Sums.{position_or_len_is, fails_before_first, passes_at_first}
 use Rattle.std.proofs.lemmas.Map.Keys.{any_passes_from_place}
 use Rattle.std.proofs.lemmas.Bool.Decides.{nat_tests}
 use Rattle.std.proofs.lemmas.Slice.Eq.{bytes_eq-Decides}
-use Rattle.std.specs.List.{slice_get, position_or_len}
+use Rattle.std.specs.List.{All, Contains, slice_get, position_or_len}
 use Rattle.std.specs.Str.{bytes_eq}
 use Rattle.fp_base.specs.Names.{has_name, number_of, with_name, with_names, AreDistinct, IsNameTable}
 
@@ -93,6 +94,13 @@ has_name-with_name names text other =
       | false ↦ λ has. ap (λ table. has_name table other) (new has) ∙ grind arith
     ] refl
 
+-- a text that was interned is in the table
+pub has_name-interned : (names : List (List ℕ)) (text : List ℕ) → has_name (with_name names text) text ≡ true
+has_name-interned names text =
+    let same : bytes_eq text text ≡ true = (bytes_eq-Decides text text).1 refl in
+    let has : has_name (with_name names text) text ≡ (has_name names text || bytes_eq text text) = has_name-with_name names text text in
+    grind arith
+
 -- names keep their numbers
 pub slice_get-with_name : (names : List (List ℕ)) (text : List ℕ) (i : ℕ) (other : List ℕ) → slice_get names i ≡ Some other → slice_get (with_name names text) i ≡ Some other
 slice_get-with_name names text i other at =
@@ -134,6 +142,37 @@ has_name-with_names names (text ∷ texts) other =
     has_name-with_names (with_name names text) texts other
     ∙ ap (λ b. b || has_name texts other) (has_name-with_name names text other)
     ∙ or_assoc (has_name names other) (bytes_eq other text) (has_name texts other)
+
+-- the table keeps its texts
+pub has_name-kept : (names texts : List (List ℕ)) (other : List ℕ) → has_name names other ≡ true → has_name (with_names names texts) other ≡ true
+has_name-kept names texts other has = has_name-with_names names texts other ∙ ap (λ b. b || has_name texts other) has
+
+-- the table has each text that was interned
+pub has_name-among : (names texts : List (List ℕ)) (text : List ℕ) → Contains texts text → has_name (with_names names texts) text ≡ true
+has_name-among names texts text (k, within, read) =
+    let same : bytes_eq text (get_or texts k text) ≡ true = ap (bytes_eq text) read ∙ (bytes_eq-Decides text text).1 refl in
+    let among : has_name texts text ≡ true = list_any_at (bytes_eq text) texts k text within same in
+    let has : has_name (with_names names texts) text ≡ (has_name names text || has_name texts text) = has_name-with_names names texts text in
+    grind arith
+
+-- texts that are in the table leave it as it is
+pub with_names-known : (names texts : List (List ℕ)) → All (λ text. has_name names text ≡ true) texts → with_names names texts ≡ names
+with_names-known names [] known = refl
+with_names-known names (text ∷ texts) known =
+    ap (λ table. with_names table texts) (with_name-known names text (All-head (λ t. has_name names t ≡ true) text texts known))
+    ∙ with_names-known names texts (All-tail (λ t. has_name names t ≡ true) text texts known)
+
+-- ---- how long a table is
+
+pub length-le-with_names : (names texts : List (List ℕ)) → length names ≤ length (with_names names texts)
+length-le-with_names names texts =
+    let (more, is) = with_names-extends names texts in
+    omega (arith, ap length is, length-append names more)
+
+-- a new text makes it longer, whatever comes after
+pub length-lt-with_names : (names : List (List ℕ)) (text : List ℕ) (texts : List (List ℕ)) → has_name names text ≡ false → length names < length (with_names names (text ∷ texts))
+length-lt-with_names names text texts new =
+    omega (arith, length-le-with_names (with_name names text) texts, ap length (with_name-new names text new), length-append names (text ∷ []))
 
 -- ---- distinct texts
 

@@ -1,6 +1,6 @@
 //! Byte strings written in printable ASCII, so that different strings are written differently.
-ghost use Rattle.std.specs.Prelude.{◌≡◌, ◌<◌, ◌++◌, codes, OnOk, OnErr};
-ghost use Rattle.fp_base.specs.Escape.{is_plain, hex_digit, escaped_byte, escaped_by, escaped_text, escaped_name};
+ghost use Rattle.std.specs.Prelude.{◌≡◌, ◌<◌, List, ℕ, ◌++◌, All, OnOk, OnErr};
+ghost use Rattle.fp_base.specs.Escape.{is_plain, hex_digit, escaped_byte, escaped_by, escaped_text, escaped_name, AreBytes, IsTextByte, IsNameByte};
 
 use std::alloc::AllocError;
 
@@ -44,7 +44,8 @@ fn append_byte(reserved: &[u8], byte: u8, to: &mut Vec<u8>) -> Result<(), AllocE
     ensures err { OnErr result (to.new.items ≡ to.old.items) }
 {
     if stays_plain(reserved, byte) {
-        to.extend_from_slice(&[byte])
+        to.push(byte)?;
+        Ok(())
     } else {
         to.extend_from_slice(&[
             b'\\',
@@ -69,5 +70,50 @@ fn hex_digit_of(value: u8) -> u8
         b'0' + value
     } else {
         b'a' + (value - 10)
+    }
+}
+
+/// Two laws: no two byte strings have one escaped text, and an escaped text has no comma and only printable bytes but space.
+#[tactic(auto, using(crate::proofs::EscapeLemmas::text_laws))]
+pub fn law_escaped_text()
+    ensures injective { (a b : List ℕ) → AreBytes a → AreBytes b → escaped_text a ≡ escaped_text b → a ≡ b }
+    ensures bytes { (text : List ℕ) → AreBytes text → All IsTextByte (escaped_text text) }
+{}
+
+/// Two laws: no two byte strings have one escaped name, and an escaped name has the bytes of an escaped text but `.`, `(` and `:`.
+#[tactic(auto, using(crate::proofs::EscapeLemmas::name_laws))]
+pub fn law_escaped_name()
+    ensures injective { (a b : List ℕ) → AreBytes a → AreBytes b → escaped_name a ≡ escaped_name b → a ≡ b }
+    ensures bytes { (name : List ℕ) → AreBytes name → All IsNameByte (escaped_name name) }
+{}
+
+#[cfg(test)]
+mod tests {
+    use super::*;
+    use std::test::Fail;
+
+    #[test]
+    fn escapes_what_separates_and_what_does_not_print(rt: HostRuntime) -> Result<(), Fail> {
+        let cases: [(u8, &[u8], &[u8]); 10] = [
+            (0x20, b"\\x20", b"\\x20"),
+            (b'!', b"!", b"!"),
+            (b'\\', b"\\x5c", b"\\x5c"),
+            (b',', b"\\x2c", b"\\x2c"),
+            (b'.', b".", b"\\x2e"),
+            (b'(', b"(", b"\\x28"),
+            (b':', b":", b"\\x3a"),
+            (b'~', b"~", b"~"),
+            (0x7F, b"\\x7f", b"\\x7f"),
+            (0xFF, b"\\xff", b"\\xff"),
+        ];
+        for (byte, text, name) in cases {
+            let mut escaped = Vec::new(rt.alloc());
+            escape_text(&[byte], &mut escaped)?;
+            assert_eq!(rt; escaped.as_slice(), text);
+            escaped.clear();
+            escape_name(&[byte], &mut escaped)?;
+            assert_eq!(rt; escaped.as_slice(), name);
+        }
+        Ok(())
     }
 }

@@ -21,7 +21,7 @@ pub enum NameFault {
 /// The names of a program, numbered from 0 in the order in which they were first met.
 ///
 /// A name is any byte string. It keeps its number for as long as the table lives, and no two numbers have one name.
-#[derive(Drop)]
+#[derive(Debug, Drop)]
 pub struct Names {
     set: IndexSet<Vec<u8>>,
 }
@@ -72,10 +72,8 @@ impl Names {
         ensures distinct { AreDistinct self.now }
         ensures within_limit { length self.now ≤ MAX_NAMES }
     {
-        match self.set.get_index_of(text) {
-            Some(index) => Some(index as u32),
-            None => None,
-        }
+        let index = self.set.get_index_of(text)?;
+        Some(index as u32)
     }
 
     /// The name with the number `id`, if the number was given. Takes no memory.
@@ -84,10 +82,8 @@ impl Names {
         ensures distinct { AreDistinct self.now }
         ensures within_limit { length self.now ≤ MAX_NAMES }
     {
-        match self.set.get_index(id as usize) {
-            Some(name) => Some(name.as_slice()),
-            None => None,
-        }
+        let name = self.set.get_index(id as usize)?;
+        Some(name.as_slice())
     }
 
     /// The number of `text`, which is the next one if it had none.
@@ -99,7 +95,8 @@ impl Names {
         ensures number { IfOk result (λ id. slice_get self.new id ≡ Some text.now) }
 
         ensures known { has_name self.old text.now ≡ true → IsOk result }
-        ensures full { IsErrOf result NameFault.Full ↔ (has_name self.old text.now ≡ false) × (length self.old ≡ MAX_NAMES) }
+        ensures full { IsErrOf result NameFault.Full
+            ↔ (has_name self.old text.now ≡ false) × (length self.old ≡ MAX_NAMES) }
         ensures err { OnErr result (self.new ≡ self.old) }
 
         ensures distinct { AreDistinct self.new }
@@ -128,4 +125,22 @@ fn add_new(set: &mut IndexSet<Vec<u8>>, alloc: Global, text: &[u8]) -> Result<()
     let copy = Vec::from_slice(alloc, text)?;
     set.insert(copy)?;
     Ok(())
+}
+
+#[cfg(test)]
+mod tests {
+    use super::*;
+
+    #[test]
+    fn a_name_keeps_its_number(rt: HostRuntime) {
+        let mut names = Names::new(rt.alloc());
+        assert_eq!(rt; names.intern(rt.alloc(), b"java/lang/Object"), Ok(0));
+        assert_eq!(rt; names.intern(rt.alloc(), b"main"), Ok(1));
+        assert_eq!(rt; names.intern(rt.alloc(), b"java/lang/Object"), Ok(0));
+        assert_eq!(rt; names.len(), 2);
+        assert_eq!(rt; names.text(1), Some(b"main".as_slice()));
+        assert_eq!(rt; names.text(2), None);
+        assert_eq!(rt; names.find(b"main"), Some(1));
+        assert_eq!(rt; names.find(b"mai"), None);
+    }
 }

@@ -1,14 +1,12 @@
 -- What the text of an element's type has: its letter, or its class name.
-use Rattle.std.proofs.Common.{◌≡◌, ◌≢◌, ℕ, zero, suc, ◌+◌, ◌-◌, ◌<◌, ◌≤◌, Bool, true, false, ◌&&◌, ◌||◌, not, cond, List, [], ◌∷◌, ◌++◌, length, take, drop, get_or, replicate, codes, refl, sym, ap, ◌∙◌, subst, arith, length-append, add-one, Result, Ok, Err}
-use Rattle.std.specs.Prelude.{◌==◌, nat_lt, nat_le, IsTrue, ◌↔◌}
-use Rattle.std.specs.List.{list_all, list_any}
-use Rattle.std.proofs.lemmas.Bool.{and_parts, and_from, eqb-true, ne_eqb, both_ways, ltb-true, lt-ltb, not-true}
+use Rattle.std.proofs.Common.{◌≡◌, ◌≢◌, ℕ, suc, ◌-◌, ◌<◌, ◌≤◌, true, ◌&&◌, cond, List, [], ◌∷◌, ◌++◌, length, take, drop, get_or, replicate, codes, refl, sym, ap, ◌∙◌, arith, length-append}
+use Rattle.std.specs.Prelude.{◌==◌, nat_lt, nat_le}
+use Rattle.std.specs.List.{list_all}
+use Rattle.std.proofs.lemmas.Bool.{and_parts, and_from, eqb-true, ne_eqb, ltb-true, lt-ltb}
 use Rattle.std.proofs.lemmas.Bool.Decides.{nat_tests}
-use Rattle.fp_base.specs.Names.{has_name}
 use Rattle.fp_model.specs.declared.kind.Elem.{Elem}
-use Rattle.fp_model.specs.declared.kind.Kind.{Kind}
 use Rattle.fp_model.specs.declared.kind.Kind.TheVariants as kind
-use Rattle.fp_model.specs.Descriptor.{is_among, is_element, is_ended_name, is_field_descriptor, is_name_byte, is_proper, dimensions, element_names, element_text, kind_text, IsKindOf, LacksRoom}
+use Rattle.fp_model.specs.Descriptor.{is_among, is_element, is_ended_name, is_field_descriptor, is_name_byte, dimensions, element_names, element_text, kind_text, IsKindOf}
 use Rattle.fp_model.proofs.EndedNames.{front_and_last, is_ended_name-push}
 use Rattle.fp_model.proofs.ArrayTypes.{brackets_and_rest}
 use Rattle.std.proofs.Math.Seq.{take-append_seam}

@@ -1,13 +1,13 @@
 -- Where a class name and its ';' stop.
-use Rattle.std.proofs.Common.{◌≡◌, ◌≢◌, ◌⊎◌, inl, inr, ℕ, zero, suc, ◌+◌, ◌-◌, ◌<◌, ◌≤◌, Bool, true, false, ◌&&◌, List, [], ◌∷◌, ◌++◌, length, take, drop, get_or, refl, sym, ap, ◌∙◌, arith, length-append, add-one, drop-cons}
-use Rattle.std.specs.Prelude.{◌==◌, nat_lt, take_while, slice_index}
+use Rattle.std.proofs.Common.{◌≡◌, ◌≢◌, inl, inr, ℕ, suc, ◌+◌, ◌-◌, ◌<◌, ◌≤◌, Bool, true, false, ◌&&◌, List, [], ◌∷◌, ◌++◌, length, take, drop, get_or, refl, sym, ap, ◌∙◌, arith, length-append, add-one, drop-cons}
+use Rattle.std.specs.Prelude.{◌==◌, nat_lt, take_while}
 use Rattle.std.specs.List.{list_all, prefix_len}
 use Rattle.std.proofs.lemmas.List.{append-nil, append_assoc, take-append-drop}
 use Rattle.std.proofs.lemmas.Grind.{common_steps}
-use Rattle.std.proofs.lemmas.List.Folds.{length-prefix_len, list_all-append, prefix_len-append}
+use Rattle.std.proofs.lemmas.List.Folds.{length-prefix_len, list_all-append}
 use Rattle.std.proofs.lemmas.List.Sums.{take_while-cons}
 use Rattle.std.proofs.Math.Seq.{take-append_seam}
-use Rattle.std.proofs.lemmas.Bool.{and_parts, and_left, and_right, and_from, eqb-true, ne_eqb, both_ways, cases_lt, cases_eq, lt-ltb}
+use Rattle.std.proofs.lemmas.Bool.{and_parts, and_left, and_right, and_from, ne_eqb, both_ways, cases_lt, cases_eq, lt-ltb}
 use Rattle.std.proofs.lemmas.Bool.Decides.{nat_tests}
 use Rattle.fp_model.specs.Descriptor.{is_name_byte, is_ended_name, GoesOn, StopsAt}
 use Rattle.fp_model.proofs.Stops.{StopsAt-byte, StopsAt-end}

@@ -1,8 +1,7 @@
 -- A text says at most one kind.
-use Rattle.std.proofs.Common.{◌≡◌, ◌≢◌, ℕ, zero, suc, ◌+◌, ◌<◌, Bool, true, false, ◌&&◌, cond, List, [], ◌∷◌, ◌++◌, Some, None, length, drop, replicate, codes, refl, sym, ap, ◌∙◌, arith, length-append}
-use Rattle.std.specs.Prelude.{◌==◌, nat_lt, nat_le, IsTrue, slice_get, unwrap_or, if◌then◌else◌}
+use Rattle.std.proofs.Common.{◌≡◌, ℕ, zero, suc, ◌+◌, ◌<◌, true, false, List, [], ◌∷◌, ◌++◌, Some, None, length, drop, replicate, codes, refl, sym, ap, ◌∙◌, arith, length-append}
+use Rattle.std.specs.Prelude.{◌==◌, nat_le, slice_get, unwrap_or, if◌then◌else◌}
 use Rattle.std.proofs.lemmas.List.{append-nil, append_cancel_right, length-replicate, replicate_more}
-use Rattle.std.proofs.lemmas.Grind.{common_steps}
 use Rattle.std.proofs.Math.Seq.{drop-append_seam}
 use Rattle.std.proofs.lemmas.Bool.{and_parts, and_right, both_ways, eqb-true}
 use Rattle.std.proofs.lemmas.Bool.Decides.{nat_tests}
@@ -11,7 +10,7 @@ use Rattle.fp_model.specs.declared.kind.Kind.{Kind}
 use Rattle.fp_model.specs.declared.kind.Kind.TheVariants as kind
 use Rattle.fp_model.specs.declared.kind.Elem.{Elem}
 use Rattle.fp_model.specs.declared.kind.Elem.TheVariants as elem
-use Rattle.fp_model.specs.Descriptor.{dimensions, element_text, is_among, is_element, is_field_descriptor, is_kind, is_proper, kind_text, text_of, IsKindOf}
+use Rattle.fp_model.specs.Descriptor.{dimensions, element_text, is_among, is_element, is_field_descriptor, is_proper, kind_text, text_of, IsKindOf}
 use Rattle.fp_model.proofs.ArrayTypes.{dimensions-other, dimensions-replicate, is_field_descriptor-brackets}
 use Rattle.fp_model.proofs.ElementTexts.{name_parts}
 
@@ -82,9 +81,9 @@ seen names text k is =
     let none : dimensions (element_text names (element_of k)) ≡ 0 = no_bracket names (dims_of k) (element_of k) (ap is_field_descriptor (sym (written names k)) ∙ passes) in
     let count : dims_of k ≡ dimensions text = omega (arith, ap dimensions whole, dimensions-replicate (dims_of k) (element_text names (element_of k))) in
     let rest : element_text names (element_of k) ≡ drop (dims_of k) text =
-        sym (drop-append_seam (replicate (dims_of k) 91) (element_text names (element_of k)))
-        ∙ ap (λ n. drop n (replicate (dims_of k) 91 ++ element_text names (element_of k))) (length-replicate (dims_of k) 91)
-        ∙ ap (drop (dims_of k)) whole in
+    sym (drop-append_seam (replicate (dims_of k) 91) (element_text names (element_of k)))
+    ∙ ap (λ n. drop n (replicate (dims_of k) 91 ++ element_text names (element_of k))) (length-replicate (dims_of k) 91)
+    ∙ ap (drop (dims_of k)) whole in
     (count, rest ∙ ap (λ n. drop n text) count)
 
 -- ---- the type of an element

@@ -73,5 +73,4 @@ fn kind_of(element: Elem) -> Kind
 #[tactic(auto, using(crate::proofs::OneKind::one_kind))]
 pub fn law_one_kind()
     ensures { (names : List (List ℕ)) (text : List ℕ) → AreDistinct names → SaysOneKind names text }
-{
-}
+{}

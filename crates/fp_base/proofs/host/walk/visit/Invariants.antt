@@ -1,0 +1,7 @@
+-- What was found passes the test.
+use Rattle.std.specs.List.{AllPass}
+use Rattle.fp_base.specs.Files.{is_class_file, texts}
+use Rattle.fp_base.proofs.host.walk.visit.Given as goal
+
+abbrev pub invariant-loop-entry : goal.invariant-loop-entry
+invariant-loop-entry g l = AllPass (is_class_file l.root) (texts l.walk.found.items)

@@ -1,0 +1,154 @@
+ghost use Rattle.std.specs.Prelude.{◌≡◌, ℕ, [], ◌++◌, length, take, IsTrue, IsNone, IsSomeAnd, Some, OnOk, OnErr, IsErrOf};
+ghost use Rattle.std.specs.Io.KnownBytes.{append_known};
+ghost use Rattle.fp_base.specs.Counters.{one_more};
+ghost use Rattle.fp_base.specs.Faults.{AppendsPart, HasSinkCause};
+ghost use Rattle.fp_base.specs.MemSink.{distinct_calls, kept_at};
+
+use crate::outside::sink::{Sink, SinkFault};
+use std::alloc::Global;
+use std::marker::Model;
+
+/// A sink that keeps its bytes in memory, and fails at the calls that its maker names.
+#[derive(Debug, Drop)]
+pub struct MemSink {
+    bytes: Vec<u8>,
+    failing: Vec<(u32, u32)>,
+    calls: u64,
+    faults: u64,
+}
+
+impl Model for MemSink {
+    ghost use Rattle.fp_base.specs.MemSink.{MemSinkState};
+
+    ghost Value = { MemSinkState };
+
+    ghost view = { λ s. record { bytes = s.bytes.items; failing = s.failing.items; calls = s.calls; faults = s.faults } };
+}
+
+impl MemSink {
+    /// An empty sink. A pair of `failing` is a call's number, from 0, and how many bytes of its piece that call keeps.
+    pub fn new(alloc: Global, failing: Vec<(u32, u32)>) -> MemSink
+        requires { IsTrue (distinct_calls failing.items) }
+        ensures { result ≡ record { bytes = []; failing = failing.items; calls = 0; faults = 0 } }
+    {
+        MemSink {
+            bytes: Vec::new(alloc),
+            failing,
+            calls: 0,
+            faults: 0,
+        }
+    }
+
+    /// The bytes that it has taken.
+    pub fn bytes(&self) -> &[u8]
+        ensures { result.now ≡ self.now.bytes }
+    {
+        self.bytes.as_slice()
+    }
+}
+
+/// Whether no call's number stands in two pairs.
+pub fn has_distinct_calls(failing: &[(u32, u32)]) -> bool
+    ensures { result ≡ distinct_calls failing.now }
+{
+    for (i, pair) in failing.iter().enumerate() {
+        if kept_bytes(&failing[i + 1..], u64::from(pair.0)).is_some() {
+            return false;
+        }
+    }
+    true
+}
+
+/// How many bytes of its piece a failing call keeps.
+fn kept_bytes(failing: &[(u32, u32)], call: u64) -> Option<u32>
+    ensures { result ≡ kept_at failing.now call }
+{
+    for pair in failing {
+        if u64::from(pair.0) == call {
+            return Some(pair.1);
+        }
+    }
+    None
+}
+
+/// The first bytes of a piece, at most this many.
+fn first_part(piece: &[u8], most: u32) -> &[u8]
+    ensures { result.now ≡ take most piece.now }
+{
+    let most = most as usize;
+    if piece.len() <= most {
+        piece
+    } else {
+        &piece[..most]
+    }
+}
+
+impl Sink for MemSink {
+    ghost told = { λ s. Some s.bytes };
+
+    ghost faults = { λ s. s.faults };
+
+    fn put(&mut self, piece: &[u8]) -> Result<(), SinkFault>
+        // Which calls fail, and what each answer leaves.
+        ensures whole { OnOk result (self.new ≡ record self.old { bytes = self.old.bytes ++ piece.now; calls = one_more self.old.calls }) }
+        ensures no_failing_call { OnOk result (IsNone (kept_at self.old.failing self.old.calls)) }
+        ensures failing_call { IsErrOf result SinkFault.Failed
+            → IsSomeAnd (kept_at self.old.failing self.old.calls) (λ kept. self.new ≡ record self.old { bytes = self.old.bytes ++ take kept piece.now; calls = one_more self.old.calls; faults = one_more self.old.faults }) }
+        ensures memory { IsErrOf result SinkFault.Memory → self.new ≡ record self.old { calls = one_more self.old.calls } }
+
+        // What each sink promises, where these don't say it.
+        ensures prefix { OnErr result (AppendsPart (Some self.old.bytes) (Some self.new.bytes) piece.now) }
+        ensures cause { HasSinkCause self.old.faults self.new.faults result }
+    {
+        let kept = kept_bytes(&self.failing, self.calls);
+        self.calls = self.calls.saturating_add(1);
+        let Some(kept) = kept else {
+            return match self.bytes.extend_from_slice(piece) {
+                Ok(()) => Ok(()),
+                Err(_) => Err(SinkFault::Memory),
+            };
+        };
+        if self
+            .bytes
+            .extend_from_slice(first_part(piece, kept))
+            .is_err()
+        {
+            return Err(SinkFault::Memory);
+        }
+        self.faults = self.faults.saturating_add(1);
+        Err(SinkFault::Failed)
+    }
+}
+
+#[cfg(test)]
+mod tests {
+    use super::*;
+    use std::test::Fail;
+
+    #[test]
+    fn failing_puts_keep_their_part(rt: HostRuntime) -> Result<(), Fail> {
+        let alloc = rt.alloc();
+        let failing = vec![in alloc; (1, 2), (3, 9)]?;
+        assert!(rt; has_distinct_calls(&failing));
+        let mut sink = MemSink::new(alloc, failing);
+        let puts: [(&str, Result<(), SinkFault>, &str); 5] = [
+            ("ab", Ok(()), "ab"),
+            ("cde", Err(SinkFault::Failed), "abcd"),
+            ("", Ok(()), "abcd"),
+            ("fg", Err(SinkFault::Failed), "abcdfg"),
+            ("h", Ok(()), "abcdfgh"),
+        ];
+        for (piece, answer, told) in puts {
+            assert_eq!(rt; sink.put(piece.as_bytes()), answer, "at {piece}");
+            assert_eq!(rt; sink.bytes(), told.as_bytes(), "after {piece}");
+        }
+        Ok(())
+    }
+
+    #[test]
+    fn calls_in_two_pairs_are_told(rt: HostRuntime) {
+        assert!(rt; has_distinct_calls(&[]));
+        assert!(rt; has_distinct_calls(&[(0, 1), (2, 1), (1, 1)]));
+        assert!(rt; !has_distinct_calls(&[(0, 1), (2, 1), (0, 2)]));
+    }
+}
