@@ -11,3 +11,6 @@ mod soundness;
 
 pub use naming::to_class;
 pub use reader::{law_spelling, read_class};
+
+#[cfg(test)]
+mod tests;

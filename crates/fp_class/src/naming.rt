@@ -168,12 +168,12 @@ fn class(alloc: Global, raw: &Raw, names: &mut Names) -> Result<Class, NameFault
     ensures names { Interned result names.old names.new (raw_names raw.now) }
 {
     let entries = raw.pool.entries.as_slice();
-    let name = class_name(alloc, entries, raw.this, names)?;
+    let this = class_name(alloc, entries, raw.this, names)?;
     let parent = parent_name(alloc, entries, raw.parent, names)?;
     let interfaces = class_names(alloc, entries, raw.interfaces.as_slice(), names)?;
     let fields = fields(alloc, entries, raw.fields.as_slice(), names)?;
     Ok(Class {
-        name,
+        name: this,
         parent,
         interfaces,
         flags: raw.flags,

@@ -30,9 +30,9 @@ pub fn parts(alloc: Global, bytes: &[u8]) -> Result<Raw, FileFault>
     let (parent, next) = u16_at(bytes, next)?;
     let (interfaces, next) = interfaces(alloc, bytes, next)?;
     let (fields, next) = fields(alloc, bytes, next)?;
-    let next = nothing(bytes, next)?;
-    let next = nothing(bytes, next)?;
-    if next as usize != bytes.len() {
+    let behind_methods = nothing(bytes, next)?;
+    let end = nothing(bytes, behind_methods)?;
+    if end as usize != bytes.len() {
         return Err(FileFault::Unbuilt { at: 0 });
     }
     Ok(Raw {

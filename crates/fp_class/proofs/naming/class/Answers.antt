@@ -22,7 +22,7 @@ returns-in_err-parent-clause-names c =
     rw (p.1, p.2)
     (subst (Interned (Err c.in_err-parent.field-0.0) c.args.names.now c.parent_name.new.names)
     (texts_whole c.args.raw.now c.as_slice-entries.result.now c.args.raw.now.interfaces c.args.raw.now.fields c.as_slice-entries.ensures refl refl)
-    (after_one c.in_err-parent.field-0.0 c.args.names.now c.class_name.new.names c.parent_name.new.names _ _ _ c.in_ok-name.ensures.names.names c.in_err-parent.ensures.names))
+    (after_one c.in_err-parent.field-0.0 c.args.names.now c.class_name.new.names c.parent_name.new.names _ _ _ c.in_ok-this.ensures.names.names c.in_err-parent.ensures.names))
 
 pub returns-in_err-interfaces-clause-names : goal.returns-in_err-interfaces-clause-names
 returns-in_err-interfaces-clause-names c =
@@ -30,7 +30,7 @@ returns-in_err-interfaces-clause-names c =
     rw (p.1, p.2)
     (subst (Interned (Err c.in_err-interfaces.field-0.0) c.args.names.now c.class_names.new.names)
     (texts_whole c.args.raw.now c.as_slice-entries.result.now c.as_slice.result.now c.args.raw.now.fields c.as_slice-entries.ensures c.as_slice.ensures refl)
-    (after_two c.in_err-interfaces.field-0.0 c.args.names.now c.class_name.new.names c.parent_name.new.names c.class_names.new.names _ _ _ _ c.in_ok-name.ensures.names.names c.in_ok-parent.ensures.names.names c.in_err-interfaces.ensures.names))
+    (after_two c.in_err-interfaces.field-0.0 c.args.names.now c.class_name.new.names c.parent_name.new.names c.class_names.new.names _ _ _ _ c.in_ok-this.ensures.names.names c.in_ok-parent.ensures.names.names c.in_err-interfaces.ensures.names))
 
 pub fields-requires-clause-sound : goal.fields-requires-clause-sound
 fields-requires-clause-sound c = rw (c.as_slice-entries.ensures, c.as_slice-2.ensures) (sound_of c.args.raw.now c.requires.sound).fields
@@ -46,26 +46,26 @@ returns-in_err-fields-clause-names c =
     (option_to_list (class_name_at c.as_slice-entries.result.now c.args.raw.now.parent))
     (flat_map (λ index. option_to_list (class_name_at c.as_slice-entries.result.now index)) c.as_slice.result.now)
     (flat_map (field_names c.as_slice-entries.result.now) c.as_slice-2.result.now)
-    c.in_ok-name.ensures.names.names c.in_ok-parent.ensures.names.names c.in_ok-interfaces.ensures.names.names c.in_err-fields.ensures.names))
+    c.in_ok-this.ensures.names.names c.in_ok-parent.ensures.names.names c.in_ok-interfaces.ensures.names.names c.in_err-fields.ensures.names))
 
 pub returns-clause-class : goal.returns-clause-class
 returns-clause-class c =
     class_over c.args.raw.now c.as_slice-entries.result.now c.as_slice.result.now c.as_slice-2.result.now
     c.class_name.new.names c.parent_name.new.names c.class_names.new.names c.fields.new.names
-    c.in_ok-name.name c.in_ok-parent.parent c.in_ok-interfaces.interfaces c.in_ok-fields.fields c.new.result
+    c.in_ok-this.this c.in_ok-parent.parent c.in_ok-interfaces.interfaces c.in_ok-fields.fields c.new.result
     c.as_slice-entries.ensures c.as_slice.ensures c.as_slice-2.ensures c.new.ensures
-    c.in_ok-name.ensures.number (kept_by _ _ _ _ c.in_ok-parent.ensures.names)
+    c.in_ok-this.ensures.number (kept_by _ _ _ _ c.in_ok-parent.ensures.names)
     c.in_ok-parent.ensures.number (kept_by _ _ _ _ c.in_ok-interfaces.ensures.names)
     c.in_ok-interfaces.ensures.numbers (kept_by _ _ _ _ c.in_ok-fields.ensures.names)
     c.in_ok-fields.ensures.fields
 
 pub returns-clause-names : goal.returns-clause-names
 returns-clause-names c =
-    subst (Interned (Ok (record { name = c.in_ok-name.name; parent = c.in_ok-parent.parent; interfaces = c.in_ok-interfaces.interfaces; flags = c.args.raw.now.flags; fields = c.in_ok-fields.fields; methods = c.new.result })) c.args.names.now c.fields.new.names)
+    subst (Interned (Ok (record { name = c.in_ok-this.this; parent = c.in_ok-parent.parent; interfaces = c.in_ok-interfaces.interfaces; flags = c.args.raw.now.flags; fields = c.in_ok-fields.fields; methods = c.new.result })) c.args.names.now c.fields.new.names)
     (texts_whole c.args.raw.now c.as_slice-entries.result.now c.as_slice.result.now c.as_slice-2.result.now c.as_slice-entries.ensures c.as_slice.ensures c.as_slice-2.ensures)
     (all_four _ c.args.names.now c.class_name.new.names c.parent_name.new.names c.class_names.new.names c.fields.new.names
     (option_to_list (class_name_at c.as_slice-entries.result.now c.args.raw.now.this))
     (option_to_list (class_name_at c.as_slice-entries.result.now c.args.raw.now.parent))
     (flat_map (λ index. option_to_list (class_name_at c.as_slice-entries.result.now index)) c.as_slice.result.now)
     (flat_map (field_names c.as_slice-entries.result.now) c.as_slice-2.result.now)
-    c.in_ok-name.ensures.names.names c.in_ok-parent.ensures.names.names c.in_ok-interfaces.ensures.names.names c.in_ok-fields.ensures.names.names)
+    c.in_ok-this.ensures.names.names c.in_ok-parent.ensures.names.names c.in_ok-interfaces.ensures.names.names c.in_ok-fields.ensures.names.names)
