@@ -13,8 +13,11 @@ mod Tables
 pub mod ArrayTypes
 pub mod ElementTexts
 pub mod EndedNames
+pub mod LongerTables
 pub mod Many
 pub mod OneKind
+pub mod Readers
 pub mod Soundness
 pub mod Steps
 pub mod Stops
+pub mod Takes

@@ -1,0 +1,188 @@
+-- The parts of a class in numbers of a table of names.
+use Rattle.std.proofs.Common.{◌≡◌, inl, inr, ℕ, ◌+◌, true, drop, ltb, zero, suc, ◌<◌, List, [], ◌∷◌, ◌++◌, map, Option, Some, None, length, refl, sym, ap, ◌∙◌, subst, arith}
+use Rattle.std.proofs.lemmas.List.Elements.{All-nil, All-cons}
+use Rattle.std.proofs.lemmas.Bool.{and_parts, both_ways, cases_lt, ltb-true}
+use Rattle.std.proofs.lemmas.List.{take-append-drop}
+use Rattle.std.specs.List.{All, list_all, flat_map, AllZip, slice_get}
+use Rattle.std.specs.Option.{option_and_then, option_to_list, unwrap_or, IfSome}
+use Rattle.fp_model.specs.declared.raw.pool.Entry.{Entry}
+use Rattle.fp_model.specs.declared.raw.pool.Entry.TheVariants as entry
+use Rattle.fp_model.specs.declared.class.Method.{Method}
+use Rattle.fp_model.specs.declared.kind.Kind.{Kind}
+use Rattle.fp_model.specs.declared.raw.RawMember.{RawMember}
+use Rattle.fp_model.specs.declared.raw.Raw.{Raw}
+use Rattle.fp_model.specs.declared.class.Field.{Field}
+use Rattle.fp_model.specs.Classes.{field_names, raw_names, IsFieldOf, IsClassOf}
+use Rattle.fp_model.specs.ClassSet.{IsFieldOver, IsMethodOver}
+use Rattle.fp_model.specs.Descriptor.{is_field_descriptor, IsBadAt, IsKindOf}
+use Rattle.fp_model.specs.Thin.{text_in, text_at, class_name_at, is_thin_entry, is_thin_pool, is_sound_field}
+use Rattle.fp_model.proofs.LongerTables.{Keeps, IsKindOf-kept}
+use Rattle.fp_class.proofs.Repeating.{texts_of}
+use Rattle.fp_class.proofs.Tables.{Keeps-then}
+use Rattle.fp_class.specs.Interning.{IsClassName, IsParentName, IsNamedField}
+
+-- ---- lists place by place
+
+pub AllZip-to : {A B : Type 0} (P Q : A → B → Type 0) (xs : List A) (ys : List B) → ((x : A) (y : B) → P x y → Q x y) → AllZip P xs ys → AllZip Q xs ys
+AllZip-to P Q [] [] f all = tt
+AllZip-to P Q [] (y ∷ ys) f all = absurd all
+AllZip-to P Q (x ∷ xs) [] f all = absurd all
+AllZip-to P Q (x ∷ xs) (y ∷ ys) f all = (f x y all.0, AllZip-to P Q xs ys f all.1)
+
+pub AllZip-more : {A B : Type 0} (P : A → B → Type 0) (xs : List A) (ys : List B) (x : A) (y : B) → AllZip P xs ys → P x y → AllZip P (xs ++ x ∷ []) (ys ++ y ∷ [])
+AllZip-more P [] [] x y all one = (one, tt)
+AllZip-more P [] (b ∷ ys) x y all one = absurd all
+AllZip-more P (a ∷ xs) [] x y all one = absurd all
+AllZip-more P (a ∷ xs) (b ∷ ys) x y all one = (all.0, AllZip-more P xs ys x y all.1 one)
+
+AllZip-All : {A B : Type 0} (P : A → B → Type 0) (Q : A → Type 0) (xs : List A) (ys : List B) → ((x : A) (y : B) → P x y → Q x) → AllZip P xs ys → All Q xs
+AllZip-All P Q [] [] f all = All-nil Q
+AllZip-All P Q [] (y ∷ ys) f all = absurd all
+AllZip-All P Q (x ∷ xs) [] f all = absurd all
+AllZip-All P Q (x ∷ xs) (y ∷ ys) f all = All-cons Q x xs (f x y all.0) (AllZip-All P Q xs ys f all.1)
+
+-- ---- in a longer table
+
+pub IsClassName-kept : (names longer : List (List ℕ)) (entries : List Entry) (n index : ℕ) → Keeps names longer → IsClassName names entries n index → IsClassName longer entries n index
+IsClassName-kept names longer entries n index kept is = record { text = is.text; number = kept.stands n is.text is.number; name = is.name }
+
+pub IsParentName-kept : (names longer : List (List ℕ)) (entries : List Entry) (n : Option ℕ) (index : ℕ) → Keeps names longer → IsParentName names entries n index → IsParentName longer entries n index
+IsParentName-kept names longer entries None index kept is = is
+IsParentName-kept names longer entries (Some n) index kept is = IsClassName-kept names longer entries n index kept is
+
+pub IsNamedField-kept : (names longer : List (List ℕ)) (entries : List Entry) (f : Field) (member : RawMember) → Keeps names longer → IsNamedField names entries f member → IsNamedField longer entries f member
+IsNamedField-kept names longer entries f member kept is = record {
+  flags = is.flags;
+  name = is.name;
+  name_number = kept.stands f.name is.name is.name_number;
+  name_text = is.name_text;
+  descr = is.descr;
+  descr_number = kept.stands f.descr is.descr is.descr_number;
+  descr_text = is.descr_text;
+  kind = IsKindOf-kept names longer kept is.descr f.kind is.kind;
+}
+
+-- ---- the class
+
+within : (names : List (List ℕ)) (n : ℕ) (text : List ℕ) → slice_get names n ≡ Some text → n < length names
+within [] n text at = absurd (cc)
+within (x ∷ xs) zero text at = omega arith
+within (x ∷ xs) (suc n) text at = omega (arith, within xs n text at)
+
+field_over : (names : List (List ℕ)) (entries : List Entry) (f : Field) (member : RawMember) → IsNamedField names entries f member → IsFieldOver names f
+field_over names entries f member is = record {
+  name = within names f.name is.name is.name_number;
+  descr = within names f.descr is.descr is.descr_number;
+  kind = subst (λ text. IsKindOf names text f.kind) (sym (ap (λ o. unwrap_or o []) is.descr_number)) is.kind;
+}
+
+field_of : (names : List (List ℕ)) (entries : List Entry) (f : Field) (member : RawMember) → IsNamedField names entries f member → IsFieldOf names entries f member
+field_of names entries f member is = record {
+  flags = is.flags;
+  name = is.name_number ∙ sym is.name_text;
+  descr = is.descr_number ∙ sym is.descr_text;
+}
+
+parent_over : (names : List (List ℕ)) (entries : List Entry) (n : Option ℕ) (index : ℕ) → IsParentName names entries n index → IfSome n (λ m. m < length names)
+parent_over names entries None index is = tt
+parent_over names entries (Some n) index is = within names n is.text is.number
+
+parent_of : (names : List (List ℕ)) (entries : List Entry) (n : Option ℕ) (index : ℕ) → IsParentName names entries n index → option_and_then (slice_get names) n ≡ class_name_at entries index
+parent_of names entries None index is = sym is
+parent_of names entries (Some n) index is = is.number ∙ sym is.name
+
+names_of : (names : List (List ℕ)) (entries : List Entry) (numbers indexes : List ℕ) → AllZip (IsClassName names entries) numbers indexes → map (slice_get names) numbers ≡ map (class_name_at entries) indexes
+names_of names entries [] [] all = refl
+names_of names entries [] (i ∷ indexes) all = absurd all
+names_of names entries (n ∷ numbers) [] all = absurd all
+names_of names entries (n ∷ numbers) (i ∷ indexes) all =
+    ap (λ o. o ∷ map (slice_get names) numbers) (all.0.number ∙ sym all.0.name)
+    ∙ ap (λ l. class_name_at entries i ∷ l) (names_of names entries numbers indexes all.1)
+
+class_made : (names : List (List ℕ)) (raw : Raw) (name : ℕ) (parent : Option ℕ) (interfaces : List ℕ) (fields : List Field)
+    → IsClassName names raw.pool.entries name raw.this → IsParentName names raw.pool.entries parent raw.parent → AllZip (IsClassName names raw.pool.entries) interfaces raw.interfaces → AllZip (IsNamedField names raw.pool.entries) fields raw.fields
+    → IsClassOf names (record { name = name; parent = parent; interfaces = interfaces; flags = raw.flags; fields = fields; methods = [] }) raw
+class_made names raw name parent interfaces fields this above others members =
+    let entries = raw.pool.entries in
+    record {
+      over = record {
+        name = within names name this.text this.number;
+        parent = parent_over names entries parent raw.parent above;
+        interfaces = AllZip-All (IsClassName names entries) (λ n. n < length names) interfaces raw.interfaces (λ n index is. within names n is.text is.number) others;
+        fields = AllZip-All (IsNamedField names entries) (IsFieldOver names) fields raw.fields (λ f member is. field_over names entries f member is) members;
+        methods = All-nil (IsMethodOver names);
+      };
+      flags = refl;
+      name = this.number ∙ sym this.name;
+      parent = parent_of names entries parent raw.parent above;
+      interfaces = names_of names entries interfaces raw.interfaces others;
+      fields = AllZip-to (IsNamedField names entries) (IsFieldOf names entries) fields raw.fields (λ f member is. field_of names entries f member is) members;
+      methods = refl;
+    }
+
+-- parts that were named one after the other, over tables that grew
+pub class_over : (raw : Raw) (entries : List Entry) (indexes : List ℕ) (members : List RawMember) (n1 n2 n3 n4 : List (List ℕ)) (name : ℕ) (parent : Option ℕ) (interfaces : List ℕ) (fields : List Field) (methods : List Method)
+    → entries ≡ raw.pool.entries → indexes ≡ raw.interfaces → members ≡ raw.fields → methods ≡ []
+    → IsClassName n1 entries name raw.this → Keeps n1 n2 → IsParentName n2 entries parent raw.parent → Keeps n2 n3 → AllZip (IsClassName n3 entries) interfaces indexes → Keeps n3 n4 → AllZip (IsNamedField n4 entries) fields members
+    → IsClassOf n4 (record { name = name; parent = parent; interfaces = interfaces; flags = raw.flags; fields = fields; methods = methods }) raw
+class_over raw entries indexes members n1 n2 n3 n4 name parent interfaces fields methods is i_is m_is none this k12 above k23 others k34 all =
+    let k24 = Keeps-then n2 n3 n4 k23 k34 in
+    let k14 = Keeps-then n1 n2 n4 k12 k24 in
+    let made = class_made n4 raw name parent interfaces fields
+    (subst (λ e. IsClassName n4 e name raw.this) is (IsClassName-kept n1 n4 entries name raw.this k14 this))
+    (subst (λ e. IsParentName n4 e parent raw.parent) is (IsParentName-kept n2 n4 entries parent raw.parent k24 above))
+    (subst (AllZip (IsClassName n4 raw.pool.entries) interfaces) i_is
+    (subst (λ e. AllZip (IsClassName n4 e) interfaces indexes) is
+    (AllZip-to (IsClassName n3 entries) (IsClassName n4 entries) interfaces indexes (λ n index one. IsClassName-kept n3 n4 entries n index k34 one) others)))
+    (subst (AllZip (IsNamedField n4 raw.pool.entries) fields) m_is (subst (λ e. AllZip (IsNamedField n4 e) fields members) is all)) in
+    subst (λ l. IsClassOf n4 (record { name = name; parent = parent; interfaces = interfaces; flags = raw.flags; fields = fields; methods = l }) raw) (sym none) made
+
+-- a field whose texts were numbered one after the other
+pub field_named : (n1 n2 n3 : List (List ℕ)) (entries : List Entry) (member : RawMember) (name descr : ℕ) (k : Kind) → is_sound_field entries member ≡ true
+    → slice_get n1 name ≡ text_at entries member.name → Keeps n1 n2 → slice_get n2 descr ≡ text_at entries member.descr → Keeps n2 n3 → IsKindOf n3 (unwrap_or (text_at entries member.descr) []) k
+    → IsNamedField n3 entries (record { name = name; descr = descr; kind = k; flags = member.flags }) member
+field_named n1 n2 n3 entries member name descr k sound first k12 second k23 says =
+    let texts = texts_of entries member sound in
+    record {
+      flags = refl;
+      name = texts.name;
+      name_number = (Keeps-then n1 n2 n3 k12 k23).stands name texts.name (first ∙ texts.name_is);
+      name_text = texts.name_is;
+      descr = texts.descr;
+      descr_number = k23.stands descr texts.descr (second ∙ texts.descr_is);
+      descr_text = texts.descr_is;
+      kind = subst (λ o. IsKindOf n3 (unwrap_or o []) k) texts.descr_is says;
+    }
+
+-- the texts of a class by its parts
+pub texts_whole : (raw : Raw) (entries : List Entry) (indexes : List ℕ) (members : List RawMember) → entries ≡ raw.pool.entries → indexes ≡ raw.interfaces → members ≡ raw.fields
+    → (option_to_list (class_name_at entries raw.this) ++ (option_to_list (class_name_at entries raw.parent) ++ (flat_map (λ index. option_to_list (class_name_at entries index)) indexes ++ flat_map (field_names entries) members))) ≡ raw_names raw
+texts_whole raw entries indexes members is i_is m_is =
+    ap (λ l. option_to_list (class_name_at entries raw.this) ++ (option_to_list (class_name_at entries raw.parent) ++ (flat_map (λ index. option_to_list (class_name_at entries index)) l ++ flat_map (field_names entries) members))) i_is
+    ∙ ap (λ l. option_to_list (class_name_at entries raw.this) ++ (option_to_list (class_name_at entries raw.parent) ++ (flat_map (λ index. option_to_list (class_name_at entries index)) raw.interfaces ++ flat_map (field_names entries) l))) m_is
+    ∙ ap (λ e. option_to_list (class_name_at e raw.this) ++ (option_to_list (class_name_at e raw.parent) ++ (flat_map (λ index. option_to_list (class_name_at e index)) raw.interfaces ++ flat_map (field_names e) raw.fields))) is
+
+-- ---- what a thin class file gives
+
+entry_text : (e : Entry) (text : List ℕ) → is_thin_entry e ≡ true → text_in (Some e) ≡ Some text → length text < 65536
+entry_text (entry.Utf8 t) text thin at = let is : t ≡ text = cc in omega (arith, ltb-true (length t) 65536 thin, ap length is)
+entry_text e text thin at = absurd (cc)
+
+thin_text : (entries : List Entry) (i : ℕ) (text : List ℕ) → list_all is_thin_entry entries ≡ true → text_at entries i ≡ Some text → length text < 65536
+thin_text [] i text thin at = absurd (cc)
+thin_text (e ∷ entries) zero text thin at = entry_text e text (and_parts (is_thin_entry e) (list_all is_thin_entry entries) thin).0 at
+thin_text (e ∷ entries) (suc i) text thin at = thin_text entries i text (and_parts (is_thin_entry e) (list_all is_thin_entry entries) thin).1 at
+
+-- a text is shorter than 2 ^ 16 bytes
+pub text_short : (entries : List Entry) (i : ℕ) (text : List ℕ) → is_thin_pool entries ≡ true → text_at entries i ≡ Some text → length text < 65536
+text_short (entry.Unused ∷ more) zero text thin at = absurd (cc)
+text_short (entry.Unused ∷ more) (suc i) text thin at = thin_text more i text (and_parts (ltb (length more) 65535) (list_all is_thin_entry more) thin).1 at
+text_short entries i text thin at = absurd (cc)
+
+-- a field descriptor has no bad place
+pub not_bad : (text : List ℕ) (at : ℕ) → is_field_descriptor text ≡ true → IsBadAt text at → ⊥
+not_bad text at passes bad =
+    elim (cases_lt at (length text)) [
+      | inl lt ↦ bad.after lt (drop (at + 1) text, ap is_field_descriptor (take-append-drop (at + 1) text) ∙ passes)
+      | inr ge ↦ both_ways (is_field_descriptor text) (bad.whole (omega (arith, bad.within))) passes
+    ]

@@ -1,0 +1,20 @@
+use Rattle.std.proofs.Common.{[], ◌∷◌}
+use Rattle.std.proofs.lemmas.Result.{err_from_is_err_and}
+use Rattle.std.specs.Option.{unwrap_or}
+use Rattle.fp_model.specs.Descriptor.{kind_names}
+use Rattle.fp_model.specs.Thin.{text_at}
+use Rattle.fp_class.proofs.NamedParts.{field_named}
+use Rattle.fp_class.proofs.Tables.{after_one, kept_by}
+use Rattle.fp_class.proofs.naming.field.Goals as goal
+
+pub returns-in_err-descr-clause-names : goal.returns-in_err-descr-clause-names
+returns-in_err-descr-clause-names c =
+    let p = err_from_is_err_and c.from_residual-in_err-descr.result c.from_residual-in_err-descr.ensures.1 in
+    let descr = unwrap_or (text_at c.args.entries.now c.args.member.now.descr) [] in
+    rw (p.1, p.2)
+    (after_one c.in_err-descr.field-0.0 c.args.names.now c.text.new.names c.text-2.new.names (unwrap_or (text_at c.args.entries.now c.args.member.now.name) [] ∷ []) (descr ∷ []) (kind_names descr) c.in_ok-name.ensures.names.names c.in_err-descr.ensures.names)
+
+pub returns-clause-field : goal.returns-clause-field
+returns-clause-field c =
+    field_named c.text.new.names c.text-2.new.names c.kind_at.new.names c.args.entries.now c.args.member.now c.in_ok-name.name c.in_ok-descr.descr c.in_ok-kind.kind c.requires.sound
+    c.in_ok-name.ensures.number (kept_by _ _ _ _ c.in_ok-descr.ensures.names) c.in_ok-descr.ensures.number (kept_by _ _ _ _ c.in_ok-kind.ensures.names) c.in_ok-kind.ensures.kind

@@ -1,0 +1,24 @@
+use Rattle.std.proofs.Common.{sym, ◌∙◌, subst, arith}
+use Rattle.std.proofs.lemmas.Result.{err_from_is_err_and}
+use Rattle.fp_model.specs.Reading.{Fails}
+use Rattle.fp_model.specs.Thin.{entry_at}
+use Rattle.fp_model.proofs.Many.{many_at-next, many_at-end, Fails-many_at}
+use Rattle.fp_class.proofs.pool.entries.Goals as goal
+
+pub loop-left-preserved : goal.loop-left-preserved
+loop-left-preserved c =
+    rw c.in_ok-push-2.ensures.items
+    (sym (many_at-next (entry_at c.args.bytes.now) c.args.count c.loop-left._left c.loop-left.next c.loop-left.entries.items (c.in_ok-entry.entry, c.in_ok-entry.end) (omega arith) c.in_ok-entry.ensures)
+    ∙ c.loop-left.invariant)
+
+pub returns : goal.returns
+returns c =
+    rw c.from_vec.ensures (sym c.loop-left.invariant
+    ∙ many_at-end (entry_at c.args.bytes.now) c.args.count c.loop-left._left c.loop-left.next c.loop-left.entries.items (omega arith))
+
+pub returns-in_err-entry : goal.returns-in_err-entry
+returns-in_err-entry c =
+    let p = err_from_is_err_and c.from_residual-in_err-entry.result c.from_residual-in_err-entry.ensures.1 in
+    rw (p.1, p.2)
+    (subst (λ read. Fails c.in_err-entry.field-0.0 read) c.loop-left.invariant
+    (Fails-many_at c.in_err-entry.field-0.0 (entry_at c.args.bytes.now) c.args.count c.loop-left._left c.loop-left.next c.loop-left.entries.items (omega arith) c.in_err-entry.ensures))

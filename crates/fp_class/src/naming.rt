@@ -1,0 +1,205 @@
+//! Class files in numbers of a table of names.
+ghost use Rattle.std.specs.Prelude.{◌≡◌, ◌++◌, ◌^◌, ◌<◌, ◌≤◌, ◌↔◌, IsNone, ℕ, List, [], ◌∷◌, length, true, slice_get, unwrap_or, is_some, IsTrue, IsSome, IfOk, IfSome, OnOk, IsErrOf};
+ghost use Rattle.std.specs.List.{list_all, flat_map, AllZip};
+ghost use Rattle.std.specs.Option.{option_to_list};
+ghost use Rattle.fp_base.specs.Names.{with_names};
+ghost use Rattle.fp_model.specs.Classes.{field_names, raw_names, IsClassOf};
+ghost use Rattle.fp_model.specs.Descriptor.{is_field_descriptor, kind_names, IsKindOf, LacksRoom};
+ghost use Rattle.fp_model.specs.Thin.{passes, class_name_at, is_class_index, is_sound_field, is_thin_pool, text_at, IsThin};
+ghost use Rattle.fp_class.specs.Interning.{Interned, IsClassName, IsNamedField, IsParentName};
+
+use crate::entries;
+use fp_base::{NameFault, Names};
+use fp_model::{Class, DescrFault, Entry, Field, Kind, Raw, RawMember, read_kind};
+use sqlite_items::Items;
+use std::alloc::Global;
+
+/// The number of the text at an index.
+fn text(alloc: Global, entries: &[Entry], index: u16, names: &mut Names) -> Result<u32, NameFault>
+    requires { is_some (text_at entries.now index) ≡ true }
+    ensures number { IfOk result (λ n. slice_get names.new n ≡ text_at entries.now index) }
+    ensures names { Interned result names.old names.new (unwrap_or (text_at entries.now index) [] ∷ []) }
+{
+    match entries::text(entries, index) {
+        Some(text) => names.intern(alloc, text),
+        None => unreachable!(),
+    }
+}
+
+/// The number of the name of the class at an index.
+fn class_name(
+    alloc: Global,
+    entries: &[Entry],
+    index: u16,
+    names: &mut Names,
+) -> Result<u32, NameFault>
+    requires { is_some (class_name_at entries.now index) ≡ true }
+    ensures number { IfOk result (λ n. IsClassName names.new entries.now n index) }
+    ensures names { Interned result names.old names.new (option_to_list (class_name_at entries.now index)) }
+{
+    match entries::class_name(entries, index) {
+        Some(name) => names.intern(alloc, name),
+        None => unreachable!(),
+    }
+}
+
+/// The number of the name of the superclass, if there is one.
+fn parent_name(
+    alloc: Global,
+    entries: &[Entry],
+    index: u16,
+    names: &mut Names,
+) -> Result<Option<u32>, NameFault>
+    ensures number { IfOk result (λ n. IsParentName names.new entries.now n index) }
+    ensures names { Interned result names.old names.new (option_to_list (class_name_at entries.now index)) }
+{
+    if entries::class_name(entries, index).is_none() {
+        return Ok(None);
+    }
+    match class_name(alloc, entries, index, names) {
+        Ok(name) => Ok(Some(name)),
+        Err(fault) => Err(fault),
+    }
+}
+
+/// The numbers of the names of classes.
+fn class_names(
+    alloc: Global,
+    entries: &[Entry],
+    indexes: &[u16],
+    names: &mut Names,
+) -> Result<Items<u32>, NameFault>
+    requires { IsTrue (list_all (is_class_index entries.now) indexes.now) }
+    ensures numbers { IfOk result (λ numbers. AllZip (IsClassName names.new entries.now) numbers indexes.now) }
+    ensures names { Interned result names.old names.new (flat_map (λ index. option_to_list (class_name_at entries.now index)) indexes.now) }
+{
+    let mut numbers = Vec::new(alloc);
+    for index in indexes {
+        let number = class_name(alloc, entries, *index, names)?;
+        if numbers.push(number).is_err() {
+            return Err(NameFault::Memory);
+        }
+    }
+    Ok(Items::from_vec(numbers))
+}
+
+/// The kind that a field descriptor says.
+fn kind(alloc: Global, descr: &[u8], names: &mut Names) -> Result<Kind, NameFault>
+    requires descr { is_field_descriptor descr.now ≡ true }
+    requires short { length descr.now < 2 ^ 31 }
+    ensures kind { IfOk result (IsKindOf names.new descr.now) }
+    ensures names { Interned result names.old names.new (kind_names descr.now) }
+{
+    match read_kind(alloc, descr, names) {
+        Ok(kind) => Ok(kind),
+        Err(DescrFault::Full) => Err(NameFault::Full),
+        Err(DescrFault::Memory) => Err(NameFault::Memory),
+        Err(DescrFault::Bad { .. }) => unreachable!(),
+    }
+}
+
+/// The kind that the descriptor at an index says.
+fn kind_at(
+    alloc: Global,
+    entries: &[Entry],
+    index: u16,
+    names: &mut Names,
+) -> Result<Kind, NameFault>
+    requires pool { IsTrue (is_thin_pool entries.now) }
+    requires descr { passes is_field_descriptor (text_at entries.now index) ≡ true }
+    ensures kind { IfOk result (IsKindOf names.new (unwrap_or (text_at entries.now index) [])) }
+    ensures names { Interned result names.old names.new (kind_names (unwrap_or (text_at entries.now index) [])) }
+{
+    match entries::text(entries, index) {
+        Some(descr) => kind(alloc, descr, names),
+        None => unreachable!(),
+    }
+}
+
+/// A field in numbers of the table.
+fn field(
+    alloc: Global,
+    entries: &[Entry],
+    member: &RawMember,
+    names: &mut Names,
+) -> Result<Field, NameFault>
+    requires pool { IsTrue (is_thin_pool entries.now) }
+    requires sound { is_sound_field entries.now member.now ≡ true }
+    ensures field { IfOk result (λ f. IsNamedField names.new entries.now f member.now) }
+    ensures names { Interned result names.old names.new (field_names entries.now member.now) }
+{
+    let name = text(alloc, entries, member.name, names)?;
+    let descr = text(alloc, entries, member.descr, names)?;
+    let kind = kind_at(alloc, entries, member.descr, names)?;
+    Ok(Field {
+        name,
+        descr,
+        kind,
+        flags: member.flags,
+    })
+}
+
+/// Fields in numbers of the table.
+fn fields(
+    alloc: Global,
+    entries: &[Entry],
+    members: &[RawMember],
+    names: &mut Names,
+) -> Result<Items<Field>, NameFault>
+    requires pool { IsTrue (is_thin_pool entries.now) }
+    requires sound { IsTrue (list_all (is_sound_field entries.now) members.now) }
+    ensures fields { IfOk result (λ fields. AllZip (IsNamedField names.new entries.now) fields members.now) }
+    ensures names { Interned result names.old names.new (flat_map (field_names entries.now) members.now) }
+{
+    let mut fields = Vec::new(alloc);
+    for member in members {
+        let one = field(alloc, entries, member, names)?;
+        if fields.push(one).is_err() {
+            return Err(NameFault::Memory);
+        }
+    }
+    Ok(Items::from_vec(fields))
+}
+
+/// A class in numbers of the table.
+fn class(alloc: Global, raw: &Raw, names: &mut Names) -> Result<Class, NameFault>
+    requires { IsThin raw.now }
+    ensures class { IfOk result (λ class. IsClassOf names.new class raw.now) }
+    ensures names { Interned result names.old names.new (raw_names raw.now) }
+{
+    let entries = raw.pool.entries.as_slice();
+    let this = class_name(alloc, entries, raw.this, names)?;
+    let parent = parent_name(alloc, entries, raw.parent, names)?;
+    let interfaces = class_names(alloc, entries, raw.interfaces.as_slice(), names)?;
+    let fields = fields(alloc, entries, raw.fields.as_slice(), names)?;
+    Ok(Class {
+        name: this,
+        parent,
+        interfaces,
+        flags: raw.flags,
+        fields,
+        methods: Items::new(alloc),
+    })
+}
+
+/// The class of a thin class file, in numbers of the table; its texts are taken into the table.
+///
+/// The class is there where the file is no module. On a fault the table may have grown.
+pub fn to_class(alloc: Global, raw: &Raw, names: &mut Names) -> Result<Option<Class>, NameFault>
+    requires { IsThin raw.now }
+    // It is the class of the file.
+    ensures class { IfOk result (λ c. IfSome c (λ class. IsClassOf names.new class raw.now)) }
+    // There is none exactly for a module.
+    ensures none { IfOk result (λ c. IsNone c ↔ (0x8000 ≤ raw.now.flags)) }
+
+    // The table has each text of the class once, behind what it had.
+    ensures names { OnOk result (names.new ≡ with_names names.old (raw_names raw.now)) }
+    ensures grown { (more : List (List ℕ)) × (names.new ≡ names.old ++ more) }
+    // It is full where it has no room for one of these texts.
+    ensures full { IsErrOf result NameFault.Full → LacksRoom names.new (raw_names raw.now) }
+{
+    match class(alloc, raw, names) {
+        Ok(class) => Ok(Some(class)),
+        Err(fault) => Err(fault),
+    }
+}

@@ -1,0 +1,141 @@
+//! The conditions of JVMS SE 21 sections 4.1, 4.4 and 4.5 on the parts of a file.
+ghost use Rattle.std.specs.Prelude.{◌≡◌, ◌&&◌, nat_lt, codes, IsTrue, IfOk, length, ◌≤◌};
+ghost use Rattle.std.specs.List.{list_all};
+ghost use Rattle.fp_model.specs.Descriptor.{is_array_like, is_class_text};
+ghost use Rattle.std.specs.Str.{bytes_eq};
+ghost use Rattle.fp_model.specs.Thin.{passes, class_name_at};
+ghost use Rattle.fp_model.specs.Thin as thin;
+
+use crate::entries::{class_name, text};
+use crate::repeats::has_no_repeat;
+use fp_model::{Entry, Raw, RawMember, is_kind};
+use std::alloc::{AllocError, Global};
+
+/// The flag of a module (JVMS SE 21 section 4.1).
+const MODULE: u16 = 0x8000;
+
+/// Whether a class file version is read: 50 to 65, with minor 0.
+fn is_version(major: u16, minor: u16) -> bool
+    ensures { result ≡ thin.is_version major minor }
+{
+    50 <= major && major <= 65 && minor == 0
+}
+
+/// Whether a text begins like an array type.
+fn is_array(text: &[u8]) -> bool
+    ensures { result ≡ is_array_like text.now }
+{
+    matches!(text, [b'[', ..])
+}
+
+/// Whether a class entry may name a text.
+fn may_name_class(text: &[u8]) -> bool
+    ensures { result ≡ is_class_text text.now }
+{
+    !is_array(text) || is_kind(text)
+}
+
+/// Whether what an entry refers to is of the right kind.
+fn is_sound_entry(entries: &[Entry], entry: &Entry) -> bool
+    ensures { result ≡ thin.is_sound_entry entries.now entry.now }
+{
+    match entry {
+        Entry::Class(name) => match text(entries, *name) {
+            Some(name) => may_name_class(name),
+            None => false,
+        },
+        _ => true,
+    }
+}
+
+/// Whether an index is that of a class which is no array.
+fn is_class_index(entries: &[Entry], index: u16) -> bool
+    ensures { result ≡ thin.is_class_index entries.now index }
+{
+    match class_name(entries, index) {
+        Some(name) => !is_array(name),
+        None => false,
+    }
+}
+
+/// Whether an index is that of the class without a superclass.
+fn is_object(entries: &[Entry], this: u16) -> bool
+    ensures { result ≡ passes (bytes_eq (codes "java/lang/Object")) (class_name_at entries.now this) }
+{
+    match class_name(entries, this) {
+        Some(name) => name == b"java/lang/Object".as_slice(),
+        None => false,
+    }
+}
+
+/// Whether the superclass is a class, or none for `java/lang/Object`.
+fn is_parent(entries: &[Entry], this: u16, parent: u16) -> bool
+    ensures { result ≡ thin.is_parent entries.now this parent }
+{
+    is_class_index(entries, parent) || parent == 0 && is_object(entries, this)
+}
+
+/// Whether a field's name is a text and its descriptor that of a field.
+fn is_sound_field(entries: &[Entry], field: &RawMember) -> bool
+    ensures { result ≡ thin.is_sound_field entries.now field.now }
+{
+    let has_name = text(entries, field.name).is_some();
+    match text(entries, field.descr) {
+        Some(descr) => has_name && is_kind(descr),
+        None => false,
+    }
+}
+
+/// Whether each entry refers to what it has to.
+fn are_sound_entries(entries: &[Entry]) -> bool
+    ensures { result ≡ list_all (thin.is_sound_entry entries.now) entries.now }
+{
+    entries.iter().all(|entry| is_sound_entry(entries, entry))
+}
+
+/// Whether each index is that of a class which is no array.
+fn are_class_indexes(entries: &[Entry], indexes: &[u16]) -> bool
+    ensures { result ≡ list_all (thin.is_class_index entries.now) indexes.now }
+{
+    indexes.iter().all(|index| is_class_index(entries, *index))
+}
+
+/// Whether each field has a name and a descriptor.
+fn are_sound_fields(entries: &[Entry], fields: &[RawMember]) -> bool
+    ensures { result ≡ list_all (thin.is_sound_field entries.now) fields.now }
+{
+    fields.iter().all(|field| is_sound_field(entries, field))
+}
+
+/// Whether all is sound but the fields.
+fn is_sound_head(entries: &[Entry], raw: &Raw) -> bool
+    ensures { result ≡ (thin.is_version raw.now.major raw.now.minor
+        && (list_all (thin.is_sound_entry entries.now) entries.now
+        && (nat_lt raw.now.flags MODULE
+        && (thin.is_class_index entries.now raw.now.this
+        && (thin.is_parent entries.now raw.now.this raw.now.parent
+        && list_all (thin.is_class_index entries.now) raw.now.interfaces))))) }
+{
+    is_version(raw.major, raw.minor)
+        && are_sound_entries(entries)
+        && raw.flags < MODULE
+        && is_class_index(entries, raw.this)
+        && is_parent(entries, raw.this, raw.parent)
+        && are_class_indexes(entries, raw.interfaces.as_slice())
+}
+
+/// Whether the parts of a file are sound.
+pub fn is_sound(alloc: Global, raw: &Raw) -> Result<bool, AllocError>
+    requires { length raw.now.pool.entries ≤ 65536 }
+    ensures { IfOk result (λ passed. passed ≡ thin.is_sound raw.now) }
+{
+    let entries = raw.pool.entries.as_slice();
+    let fields = raw.fields.as_slice();
+    if !is_sound_head(entries, raw) {
+        return Ok(false);
+    }
+    if !are_sound_fields(entries, fields) {
+        return Ok(false);
+    }
+    has_no_repeat(alloc, entries, fields)
+}
