@@ -1,13 +1,14 @@
-// A library with one function.
+//! Systems of monotone equations over numbered places: their contract, their laws, and the plain solver.
 #![tactic(auto)]
 
-ghost use Rattle.std.specs.Prelude.{◌≡◌};
-ghost use Rattle.fp_eqs.specs.Echo.{echo_of};
+mod analysis;
+mod ask;
+mod gives;
+mod start;
+mod system;
 
-// The `ensures` clause is the contract: what `echo` returns is `echo_of` of its argument, a definition
-// in `specs/Echo.antt`, which a caller's clause can cite too.
-pub fn echo(x: usize) -> usize
-    ensures { result ≡ echo_of x }
-{
-    x
-}
+pub use analysis::Analysis;
+pub use ask::Ask;
+pub use gives::Gives;
+pub use start::{Bound, Start};
+pub use system::System;
