@@ -1,3 +1,5 @@
 pub mod Sums
 pub mod Least
 pub mod LeastDemand
+pub mod Told
+pub mod DemoLemmas

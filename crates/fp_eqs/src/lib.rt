@@ -3,12 +3,14 @@
 
 mod analysis;
 mod ask;
+mod demo;
 mod gives;
 mod start;
 mod system;
 
 pub use analysis::Analysis;
 pub use ask::Ask;
+pub use demo::Demo;
 pub use gives::Gives;
 pub use start::{Bound, Start};
 pub use system::System;
