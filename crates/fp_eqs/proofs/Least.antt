@@ -13,6 +13,10 @@ IsClosed e b = (t : ℕ) → t < e.tasks → IsBelow ((e.task t).out b) b
 zero-or-not : (n : ℕ) → (n ≡ 0) ⊎ (n ≢ 0)
 zero-or-not n = elim (cases_lt 0 n) [ inl pos ↦ inr (λ z. omega arith) | inr z ↦ inl (omega arith) ]
 
+pub solution-rounds : (e : Equations) → solution e ≡ after_rounds e (64 * e.places + 1)
+unfolding solution
+solution-rounds e = refl
+
 module _ (e : Equations) (laws : IsMonotone e) where
   -- a task contributes to none but the places of the system
   pub out-past : (t : ℕ) → t < e.tasks → (a : ℕ → ℕ) (p : ℕ) → e.places ≤ p → (e.task t).out a p ≡ 0

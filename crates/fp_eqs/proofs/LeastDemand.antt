@@ -51,6 +51,10 @@ stopped-is-lazy e d t h = (stopped-lazy (e.task t).start _ h).0
 IsSupplied : Equations → (ℕ → Bool) → Type 0
 IsSupplied e c = (t : ℕ) → t < e.tasks → IsTrue (is_started e c t) → IsIn ((e.task t).uses (solution e)) c
 
+pub demand-rounds : (e : Equations) → demand e ≡ demand_after e (e.places + 1)
+unfolding demand
+demand-rounds e = refl
+
 module _ (e : Equations) (laws : IsMonotone e) where
   pub demand_after-places : (k p : ℕ) → IsTrue (demand_after e k p) → p < e.places
   demand_after-places zero p h = laws.shown_places p h

@@ -3,3 +3,7 @@ pub mod Least
 pub mod LeastDemand
 pub mod Told
 pub mod DemoLemmas
+pub mod MakerLemmas
+pub mod ReadingLemmas
+pub mod Joins
+pub mod Flags

@@ -5,6 +5,8 @@ mod analysis;
 mod ask;
 mod demo;
 mod gives;
+mod rounds;
+mod solved;
 mod start;
 mod system;
 
@@ -12,5 +14,6 @@ pub use analysis::Analysis;
 pub use ask::Ask;
 pub use demo::Demo;
 pub use gives::Gives;
+pub use solved::Solved;
 pub use start::{Bound, Start};
 pub use system::System;

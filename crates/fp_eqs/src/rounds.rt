@@ -1,0 +1,4 @@
+mod known;
+mod started;
+mod values;
+mod wanted;
