@@ -7,3 +7,4 @@ pub mod MakerLemmas
 pub mod ReadingLemmas
 pub mod Joins
 pub mod Flags
+pub mod SumLemmas

@@ -3,17 +3,22 @@
 
 mod analysis;
 mod ask;
+mod both;
+mod counted;
 mod demo;
 mod gives;
-mod rounds;
+mod plain;
 mod solved;
 mod start;
 mod system;
 
 pub use analysis::Analysis;
 pub use ask::Ask;
+pub use both::Both;
+pub use counted::Counted;
 pub use demo::Demo;
 pub use gives::Gives;
+pub use plain::rounds;
 pub use solved::Solved;
 pub use start::{Bound, Start};
 pub use system::System;

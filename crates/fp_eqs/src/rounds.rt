@@ -1,4 +1,0 @@
-mod known;
-mod started;
-mod values;
-mod wanted;
