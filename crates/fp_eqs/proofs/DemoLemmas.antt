@@ -1,10 +1,10 @@
 -- What the small systems' tasks do.
 use Rattle.std.proofs.Common.{◌≡◌, ◌==◌, ◌<◌, ◌≤◌, ◌+◌, ◌-◌, ℕ, Bool, true, false, IsTrue, List, [], ◌∷◌, ◌++◌, Contains, cond, refl, sym, ap, subst, ◌∙◌, arith, zero, suc}
-use Rattle.std.proofs.lemmas.Bool.{eqb-true, eqb-false, ne_eqb}
+use Rattle.std.proofs.lemmas.Bool.{eqb-false, ne_eqb}
 use Rattle.fp_eqs.specs.declared.start.Start.{Start}
-use Rattle.fp_eqs.specs.declared.start.Start.TheVariants.{Always, Triggered, Lazy}
-use Rattle.fp_eqs.specs.Answers.{asked, Agrees, IsGiven}
-use Rattle.fp_eqs.specs.Equations.{Task, IsEvaluated, count_below}
+use Rattle.fp_eqs.specs.declared.start.Start.TheVariants.{Always, Lazy}
+use Rattle.fp_eqs.specs.Answers.{asked}
+use Rattle.fp_eqs.specs.Equations.{IsEvaluated}
 use Rattle.fp_eqs.specs.Makers.{is_maker, rank, IsMakerAt}
 use Rattle.fp_eqs.specs.Bounds.{sum_below, evaluation_bound}
 use Rattle.fp_eqs.specs.Demos.{constant_task, copy_task, chain_task, chain_start, apart}
@@ -44,7 +44,7 @@ pub chain-maker_at : (n p k : ℕ) → p < n → 2 ≤ p → k ≡ 0 → IsMaker
 chain-maker_at n p k lt two e = record {
   below = lt;
   maker = here-by (p == 0) (p == 1) p (ne_eqb p 0 (λ z. omega arith)) (ne_eqb p 1 (λ z. omega arith));
-  ranked = count_below-none (λ u. is_maker p (chain_task u)) p (λ u below. false-if_not (is_maker p (chain_task u)) (λ h. let known = chain-maker p u h in absurd (omega (arith, known.0)))) ∙ sym e
+  ranked = count_below-none (λ u. is_maker p (chain_task u)) p (λ u below. false-if_not (is_maker p (chain_task u)) (λ h. let known = chain-maker p u h in absurd (omega (arith, known.0)))) ∙ sym e;
 }
 
 pub chain-rank : (n p : ℕ) → rank chain_task p n ≤ 1
@@ -62,7 +62,7 @@ pub copy-evaluated : (start : Start) (from to w : ℕ) (answers before after : L
 copy-evaluated start from to w answers before after asks gives = record {
   asks = λ a h p. ap (λ es. asked es p) asks ∙ or-false (from == p);
   gives = λ a h. one-given before after to w 1 (λ p. to == p) (λ p. cond (to == p) (a from) 0) (omega arith) gives (place-here to)
-    (λ p. ap (λ v. cond (to == p) v 0) (sym (h from w (subst (λ es. Contains es (from, w)) (sym asks) (contains-here (from, w) [])))))
+      (λ p. ap (λ v. cond (to == p) v 0) (sym (h from w (subst (λ es. Contains es (from, w)) (sym asks) (contains-here (from, w) [])))));
 }
 
 -- past the first task a chain copies

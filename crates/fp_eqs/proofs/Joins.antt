@@ -1,5 +1,5 @@
 -- Lists of words as assignments, and how contributions are joined to them.
-use Rattle.std.proofs.Common.{◌≡◌, ◌==◌, ◌<◌, ◌≤◌, ◌+◌, ℕ, Bool, true, false, IsTrue, List, [], ◌∷◌, ◌++◌, Contains, bit_or, cond, length, get_or, set, take, slice_index, refl, sym, ap, subst, ◌∙◌, inl, inr, arith, add-one}
+use Rattle.std.proofs.Common.{◌≡◌, ◌==◌, ◌<◌, ◌≤◌, ◌+◌, ℕ, Bool, IsTrue, List, [], ◌∷◌, ◌++◌, Contains, bit_or, cond, length, get_or, set, take, slice_index, refl, sym, ap, subst, ◌∙◌, inl, inr, arith, add-one}
 use Rattle.std.specs.Int.Bits.{or_zero_r}
 use Rattle.std.proofs.lemmas.Bool.{cases_lt, cases_eq, eq-eqb, ne_eqb}
 use Rattle.std.proofs.lemmas.List.{get_or_past, get_or-set_same, get_or-set_other, take_more}
@@ -28,14 +28,15 @@ pub joins-more : (old now : List ℕ) (pairs : List (ℕ × ℕ)) (i q w : ℕ) 
 joins-more old now pairs i q w lt item inside so_far p =
     let taken : take (i + 1) pairs ≡ take i pairs ++ (q, w) ∷ [] = take_more pairs i (0, 0) lt ∙ ap (λ (e : ℕ × ℕ). take i pairs ++ e ∷ []) item in
     let bits : bits_of (take (i + 1) pairs) p ≡ bit_or (bits_of (take i pairs) p) (cond (q == p) w 0) =
-      ap (λ es. bits_of es p) taken ∙ bits_of-append (take i pairs) ((q, w) ∷ []) p ∙ ap (λ v. bit_or (bits_of (take i pairs) p) v) (or_zero_r (cond (q == p) w 0)) in
+    ap (λ es. bits_of es p) taken ∙ bits_of-append (take i pairs) ((q, w) ∷ []) p ∙ ap (λ v. bit_or (bits_of (take i pairs) p) v) (or_zero_r (cond (q == p) w 0)) in
     let whole : bit_or (get_or old p 0) (bits_of (take (i + 1) pairs) p) ≡ bit_or (get_or now p 0) (cond (q == p) w 0) =
-      ap (λ v. bit_or (get_or old p 0) v) bits ∙ sym (or_assoc (get_or old p 0) (bits_of (take i pairs) p) (cond (q == p) w 0)) ∙ ap (λ v. bit_or v (cond (q == p) w 0)) (sym (so_far p)) in
+    ap (λ v. bit_or (get_or old p 0) v) bits ∙ sym (or_assoc (get_or old p 0) (bits_of (take i pairs) p) (cond (q == p) w 0)) ∙ ap (λ v. bit_or v (cond (q == p) w 0)) (sym (so_far p)) in
     elim (cases_eq q p) [
-      inl same ↦ subst (λ r. get_or (set now q (bit_or (get_or now q 0) w)) r 0 ≡ bit_or (get_or now r 0) (cond (q == r) w 0)) same
-        (get_or-set_same now q (bit_or (get_or now q 0) w) 0 inside ∙ ap (λ b. bit_or (get_or now q 0) (cond b w 0)) (sym (eq-eqb q q refl))) ∙ sym whole
-    | inr other ↦ get_or-set_other now q p (bit_or (get_or now q 0) w) 0 (λ e. other (sym e))
-        ∙ sym (ap (λ b. bit_or (get_or now p 0) (cond b w 0)) (ne_eqb q p other) ∙ or_zero_r (get_or now p 0)) ∙ sym whole ]
+      | inl same ↦ subst (λ r. get_or (set now q (bit_or (get_or now q 0) w)) r 0 ≡ bit_or (get_or now r 0) (cond (q == r) w 0)) same
+          (get_or-set_same now q (bit_or (get_or now q 0) w) 0 inside ∙ ap (λ b. bit_or (get_or now q 0) (cond b w 0)) (sym (eq-eqb q q refl))) ∙ sym whole
+      | inr other ↦ get_or-set_other now q p (bit_or (get_or now q 0) w) 0 (λ e. other (sym e))
+          ∙ sym (ap (λ b. bit_or (get_or now p 0) (cond b w 0)) (ne_eqb q p other) ∙ or_zero_r (get_or now p 0)) ∙ sym whole
+    ]
 
 -- one more task's contributions are joined
 pub round-more : (f : ℕ → ℕ) (t v now new bits : ℕ) → now ≡ bit_or v (joined f t) → new ≡ bit_or now bits → bits ≡ f t → new ≡ bit_or v (joined f (t + 1))

@@ -1,8 +1,8 @@
 -- Whole rounds end in the least solution.
-use Rattle.std.proofs.Common.{◌≡◌, ◌≢◌, ◌<◌, ◌≤◌, ◌+◌, ◌*◌, ◌^◌, ◌⊎◌, ℕ, Bool, bit_or, refl, sym, ap, subst, ◌∙◌, inl, inr, arith, zero, suc, add-one}
+use Rattle.std.proofs.Common.{◌≡◌, ◌≢◌, ◌<◌, ◌≤◌, ◌+◌, ◌*◌, ◌^◌, ◌⊎◌, ℕ, refl, sym, ap, subst, ◌∙◌, inl, inr, arith, zero, suc, add-one}
 use Rattle.std.proofs.lemmas.Bool.{cases_lt}
-use Rattle.fp_bits.specs.Words.{IsWithin, within-refl, within-trans, within-antisym, or-within, or-grows, or-fits, zero-within, within-or_left, within-or_right}
-use Rattle.fp_eqs.specs.Equations.{Equations, Task, IsLawful, IsMonotone, IsBelow, IsWords}
+use Rattle.fp_bits.specs.Words.{within-refl, within-trans, or-within, or-fits, within-or_left, within-or_right}
+use Rattle.fp_eqs.specs.Equations.{Equations, IsMonotone, IsBelow, IsWords}
 use Rattle.fp_eqs.specs.Solution.{joined, round, after_rounds, solution, IsLeastSolution}
 use Rattle.fp_eqs.specs.Bounds.{sum_below}
 use Rattle.fp_eqs.proofs.Sums.{sum_below-le, sum_below-same, sum_below-most, joined-within, within-joined, joined-fits, joined-none, bits_in, bits_in-le, bits_in-most, bits_in-same}
@@ -22,8 +22,9 @@ module _ (e : Equations) (laws : IsMonotone e) where
   pub out-past : (t : ℕ) → t < e.tasks → (a : ℕ → ℕ) (p : ℕ) → e.places ≤ p → (e.task t).out a p ≡ 0
   out-past t lt a p past =
       elim (zero-or-not ((e.task t).out a p)) [
-        inl z ↦ z
-      | inr some ↦ (let k = laws.lawful t lt in absurd (omega (arith, k.makes_places p (k.gives_made a p some)))) ]
+        | inl z ↦ z
+        | inr some ↦ (let k = laws.lawful t lt in absurd (omega (arith, k.makes_places p (k.gives_made a p some))))
+      ]
 
   pub after_rounds-fits : (k : ℕ) → IsWords (after_rounds e k)
   after_rounds-fits zero p = laws.fixed_fits p
@@ -46,9 +47,9 @@ module _ (e : Equations) (laws : IsMonotone e) where
   after_rounds-within b fixed closed (suc k) p =
       or-within (after_rounds e k p) _ (b p) (after_rounds-within b fixed closed k p)
       (joined-within (λ t. (e.task t).out (after_rounds e k) p) e.tasks (b p) (λ t lt.
-        within-trans _ ((e.task t).out b p) (b p)
-        ((laws.lawful t lt).out_grows (after_rounds e k) b (after_rounds-within b fixed closed k) p)
-        (closed t lt p)))
+      within-trans _ ((e.task t).out b p) (b p)
+      ((laws.lawful t lt).out_grows (after_rounds e k) b (after_rounds-within b fixed closed k) p)
+      (closed t lt p)))
 
   IsStable : ℕ → Type 0
   IsStable k = (p : ℕ) → after_rounds e k p ≡ after_rounds e (suc k) p
@@ -69,9 +70,10 @@ module _ (e : Equations) (laws : IsMonotone e) where
   unfolding weight IsStable
   stable-weight k le p =
       elim (cases_lt p e.places) [
-        inl here ↦ bits_in-same _ _ (after_rounds-fits k p) (after_rounds-fits (suc k) p) (round-grows (after_rounds e k) p)
-          (let same = sum_below-same (λ q. bits_in (after_rounds e k q)) (λ q. bits_in (after_rounds e (suc k) q)) e.places (λ q _. bits_in-le _ _ (round-grows (after_rounds e k) q)) le p here in omega arith)
-      | inr past ↦ after_rounds-past k p past ∙ sym (after_rounds-past (suc k) p past) ]
+        | inl here ↦ bits_in-same _ _ (after_rounds-fits k p) (after_rounds-fits (suc k) p) (round-grows (after_rounds e k) p)
+            (let same = sum_below-same (λ q. bits_in (after_rounds e k q)) (λ q. bits_in (after_rounds e (suc k) q)) e.places (λ q _. bits_in-le _ _ (round-grows (after_rounds e k) q)) le p here in omega arith)
+        | inr past ↦ after_rounds-past k p past ∙ sym (after_rounds-past (suc k) p past)
+      ]
 
   stable-next : (k : ℕ) → IsStable k → IsStable (suc k)
   unfolding IsStable
@@ -82,14 +84,16 @@ module _ (e : Equations) (laws : IsMonotone e) where
       elim (cases_lt (weight 0) (weight (suc 0))) [ inl more ↦ inr (omega arith) | inr same ↦ inl (stable-weight 0 same) ]
   stable-or-heavy (suc k) =
       elim (stable-or-heavy k) [
-        inl stable ↦ inl (stable-next k stable)
-      | inr heavy ↦ elim (cases_lt (weight (suc k)) (weight (suc (suc k)))) [ inl more ↦ inr (omega arith) | inr same ↦ inl (stable-weight (suc k) same) ] ]
+        | inl stable ↦ inl (stable-next k stable)
+        | inr heavy ↦ elim (cases_lt (weight (suc k)) (weight (suc (suc k)))) [ inl more ↦ inr (omega arith) | inr same ↦ inl (stable-weight (suc k) same) ]
+      ]
 
   stable-end : IsStable (suc (64 * e.places))
   stable-end =
       elim (stable-or-heavy (64 * e.places)) [
-        inl stable ↦ stable-next (64 * e.places) stable
-      | inr heavy ↦ absurd (omega (arith, weight-most (suc (64 * e.places)))) ]
+        | inl stable ↦ stable-next (64 * e.places) stable
+        | inr heavy ↦ absurd (omega (arith, weight-most (suc (64 * e.places))))
+      ]
 
   pub solution-is : (p : ℕ) → solution e p ≡ after_rounds e (suc (64 * e.places)) p
   unfolding solution
@@ -111,7 +115,7 @@ module _ (e : Equations) (laws : IsMonotone e) where
   end-least = record {
     holds_fixed = fixed-within (suc (64 * e.places));
     closed = end-closed;
-    least = λ b fixed closed. after_rounds-within b fixed closed (suc (64 * e.places))
+    least = λ b fixed closed. after_rounds-within b fixed closed (suc (64 * e.places));
   }
 
   solution-end : solution e ≡ after_rounds e (suc (64 * e.places))

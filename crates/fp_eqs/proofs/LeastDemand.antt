@@ -1,14 +1,14 @@
 -- Rounds of demand end in the least demand.
-use Rattle.std.proofs.Common.{◌≡◌, ◌<◌, ◌≤◌, ◌+◌, ◌&&◌, ◌||◌, ◌⊎◌, ℕ, Bool, true, false, IsTrue, refl, sym, ap, subst, ◌∙◌, inl, inr, arith, zero, suc, add-one}
+use Rattle.std.proofs.Common.{◌≡◌, ◌<◌, ◌≤◌, ◌+◌, ◌&&◌, ◌⊎◌, ℕ, Bool, false, IsTrue, refl, sym, ap, subst, inl, inr, arith, zero, suc, add-one}
 use Rattle.std.proofs.lemmas.Bool.{cases_lt}
 use Rattle.fp_eqs.specs.declared.start.Start.{Start}
 use Rattle.fp_eqs.specs.declared.start.Start.TheVariants.{Always, Triggered, Lazy}
-use Rattle.fp_eqs.specs.Equations.{Equations, Task, IsLawful, IsMonotone, IsIn, count_below}
+use Rattle.fp_eqs.specs.Equations.{Equations, IsMonotone, IsIn, count_below}
 use Rattle.fp_eqs.specs.Makers.{is_maker, is_lazy}
 use Rattle.fp_eqs.specs.Solution.{solution}
-use Rattle.fp_eqs.specs.Demand.{any_below, runs, is_started, demand_round, demand_after, demand, IsLeastDemand}
+use Rattle.fp_eqs.specs.Demand.{runs, is_started, demand_round, demand_after, demand, IsLeastDemand}
 use Rattle.fp_eqs.specs.Tests.{left, right, either, both, parts, false-if_not, same-bool, any-here, any-found, any-grows, any-none}
-use Rattle.fp_eqs.specs.Counts.{count_below-le, count_below-same, count_below-most}
+use Rattle.fp_eqs.specs.Counts.{count_below-same, count_below-most}
 
 runs-grow : (s : Start) (b c : Bool) → (IsTrue b → IsTrue c) → IsTrue (runs s b) → IsTrue (runs s c)
 runs-grow Always b c h k = refl
@@ -41,9 +41,9 @@ started-maker e d t p lt h wanted =
 pub makes-none : (e : Equations) (d : ℕ → Bool) (t : ℕ) → is_started e d t ≡ false → (p : ℕ) → p < e.places → IsTrue (d p) → (e.task t).makes p ≡ false
 makes-none e d t h p lt wanted =
     false-if_not ((e.task t).makes p) (λ k.
-      let known = stopped-lazy (e.task t).start _ h in
-      let not_here = any-none (λ q. (e.task t).makes q && d q) e.places known.1 p lt in
-      let here = both ((e.task t).makes p) (d p) k wanted in cc)
+    let known = stopped-lazy (e.task t).start _ h in
+    let not_here = any-none (λ q. (e.task t).makes q && d q) e.places known.1 p lt in
+    let here = both ((e.task t).makes p) (d p) k wanted in cc)
 
 pub stopped-is-lazy : (e : Equations) (d : ℕ → Bool) (t : ℕ) → is_started e d t ≡ false → IsTrue (is_lazy (e.task t).start)
 stopped-is-lazy e d t h = (stopped-lazy (e.task t).start _ h).0
@@ -60,9 +60,10 @@ module _ (e : Equations) (laws : IsMonotone e) where
   demand_after-places zero p h = laws.shown_places p h
   demand_after-places (suc k) p h =
       elim (either (demand_after e k p) _ h) [
-        inl before ↦ demand_after-places k p before
-      | inr new ↦ (let r = any-found (λ t. is_started e (demand_after e k) t && (e.task t).uses (solution e) p) e.tasks new in
-          (laws.lawful r.at r.below).uses_places (solution e) p (parts (is_started e (demand_after e k) r.at) ((e.task r.at).uses (solution e) p) r.passes).1) ]
+        | inl before ↦ demand_after-places k p before
+        | inr new ↦ (let r = any-found (λ t. is_started e (demand_after e k) t && (e.task t).uses (solution e) p) e.tasks new in
+            (laws.lawful r.at r.below).uses_places (solution e) p (parts (is_started e (demand_after e k) r.at) ((e.task r.at).uses (solution e) p) r.passes).1)
+      ]
 
   round-grows : (d : ℕ → Bool) → IsIn d (demand_round e d)
   round-grows d p h = left (d p) _ h
@@ -73,10 +74,11 @@ module _ (e : Equations) (laws : IsMonotone e) where
   demand_after-within c shown supplied zero p h = shown p h
   demand_after-within c shown supplied (suc k) p h =
       elim (either (demand_after e k p) _ h) [
-        inl before ↦ demand_after-within c shown supplied k p before
-      | inr new ↦ (let r = any-found (λ t. is_started e (demand_after e k) t && (e.task t).uses (solution e) p) e.tasks new in
-          let known = parts (is_started e (demand_after e k) r.at) ((e.task r.at).uses (solution e) p) r.passes in
-          supplied r.at r.below (started-grows e (demand_after e k) c (demand_after-within c shown supplied k) r.at known.0) p known.1) ]
+        | inl before ↦ demand_after-within c shown supplied k p before
+        | inr new ↦ (let r = any-found (λ t. is_started e (demand_after e k) t && (e.task t).uses (solution e) p) e.tasks new in
+            let known = parts (is_started e (demand_after e k) r.at) ((e.task r.at).uses (solution e) p) r.passes in
+            supplied r.at r.below (started-grows e (demand_after e k) c (demand_after-within c shown supplied k) r.at known.0) p known.1)
+      ]
 
   IsStable : ℕ → Type 0
   IsStable k = (p : ℕ) → demand_after e k p ≡ demand_after e (suc k) p
@@ -89,7 +91,7 @@ module _ (e : Equations) (laws : IsMonotone e) where
   stable-weight k le p =
       same-bool (demand_after e k p) (demand_after e (suc k) p) (round-grows (demand_after e k) p)
       (λ h. let lt = demand_after-places (suc k) p h in
-        subst (λ b. IsTrue b) (sym (count_below-same (demand_after e k) (demand_after e (suc k)) e.places (λ q _. round-grows (demand_after e k) q) le p lt)) h)
+      subst (λ b. IsTrue b) (sym (count_below-same (demand_after e k) (demand_after e (suc k)) e.places (λ q _. round-grows (demand_after e k) q) le p lt)) h)
 
   stable-next : (k : ℕ) → IsStable k → IsStable (suc k)
   unfolding IsStable
@@ -100,8 +102,9 @@ module _ (e : Equations) (laws : IsMonotone e) where
       elim (cases_lt (weight 0) (weight (suc 0))) [ inl more ↦ inr (omega arith) | inr same ↦ inl (stable-weight 0 same) ]
   stable-or-heavy (suc k) =
       elim (stable-or-heavy k) [
-        inl stable ↦ inl (stable-next k stable)
-      | inr heavy ↦ elim (cases_lt (weight (suc k)) (weight (suc (suc k)))) [ inl more ↦ inr (omega arith) | inr same ↦ inl (stable-weight (suc k) same) ] ]
+        | inl stable ↦ inl (stable-next k stable)
+        | inr heavy ↦ elim (cases_lt (weight (suc k)) (weight (suc (suc k)))) [ inl more ↦ inr (omega arith) | inr same ↦ inl (stable-weight (suc k) same) ]
+      ]
 
   weight-most : (k : ℕ) → weight k ≤ e.places
   unfolding weight
@@ -110,8 +113,9 @@ module _ (e : Equations) (laws : IsMonotone e) where
   stable-end : IsStable (suc e.places)
   stable-end =
       elim (stable-or-heavy e.places) [
-        inl stable ↦ stable-next e.places stable
-      | inr heavy ↦ absurd (omega (arith, weight-most (suc e.places))) ]
+        | inl stable ↦ stable-next e.places stable
+        | inr heavy ↦ absurd (omega (arith, weight-most (suc e.places)))
+      ]
 
   pub demand-is : (p : ℕ) → demand e p ≡ demand_after e (suc e.places) p
   unfolding demand
@@ -133,7 +137,7 @@ module _ (e : Equations) (laws : IsMonotone e) where
   end-least = record {
     holds_shown = shown-within (suc e.places);
     supplied = end-supplied;
-    least = λ c shown supplied. demand_after-within c shown supplied (suc e.places)
+    least = λ c shown supplied. demand_after-within c shown supplied (suc e.places);
   }
 
   demand-end : demand e ≡ demand_after e (suc e.places)

@@ -8,3 +8,5 @@ pub mod ReadingLemmas
 pub mod Joins
 pub mod Flags
 pub mod SumLemmas
+pub mod Pairs
+pub mod OnDemand

@@ -1,7 +1,7 @@
 -- The makers of two lists of tasks as one.
-use Rattle.std.proofs.Common.{◌≡◌, ◌<◌, ◌≤◌, ◌+◌, ◌-◌, ℕ, Bool, true, false, IsTrue, Option, Some, None, cond, ltb, refl, sym, ap, subst, ◌∙◌, arith, zero, suc}
+use Rattle.std.proofs.Common.{◌≡◌, ◌<◌, ◌≤◌, ◌+◌, ◌-◌, ℕ, IsTrue, Option, Some, None, cond, refl, sym, ap, subst, ◌∙◌, arith, zero, suc}
 use Rattle.std.proofs.lemmas.Bool.{lt-ltb, le-ltb}
-use Rattle.fp_eqs.specs.Equations.{Task, Tasks, count_below}
+use Rattle.fp_eqs.specs.Equations.{Task, Tasks}
 use Rattle.fp_eqs.specs.Makers.{is_maker, rank, IsMakerAt, IsMakerOf}
 use Rattle.fp_eqs.specs.Sums.{both_tasks}
 
@@ -33,14 +33,14 @@ module _ (x y : Tasks) where
   maker-first p k (Some t) h lt = record {
     below = omega (arith, h.below);
     maker = subst (λ (u : Task). IsTrue (is_maker p u)) (sym (both-first t h.below)) h.maker;
-    ranked = rank-first p t (omega (arith, h.below)) ∙ h.ranked
+    ranked = rank-first p t (omega (arith, h.below)) ∙ h.ranked;
   }
 
   pub maker-second : (p k j s : ℕ) → IsMakerAt y.task y.count p j s → k ≡ rank x.task p x.count + j → IsMakerAt (both_tasks x y).task (both_tasks x y).count p k (x.count + s)
   maker-second p k j s h e = record {
     below = omega (arith, h.below);
     maker = subst (λ (u : Task). IsTrue (is_maker p u)) (sym (both-second s)) h.maker;
-    ranked = rank-second p s ∙ omega (arith, h.ranked)
+    ranked = rank-second p s ∙ omega (arith, h.ranked);
   }
 
   pub maker-none : (p k j : ℕ) → rank y.task p y.count ≤ j → k ≡ rank x.task p x.count + j → rank (both_tasks x y).task p (both_tasks x y).count ≤ k

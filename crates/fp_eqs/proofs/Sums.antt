@@ -1,9 +1,9 @@
 -- Sums and joins over the numbers below a limit.
-use Rattle.std.proofs.Common.{◌≡◌, ◌<◌, ◌≤◌, ◌+◌, ◌*◌, ◌^◌, ℕ, Bool, bit_or, refl, sym, ap, subst, ◌∙◌, inl, inr, arith, zero, suc}
+use Rattle.std.proofs.Common.{◌≡◌, ◌<◌, ◌≤◌, ◌*◌, ◌^◌, ℕ, bit_or, refl, sym, ap, ◌∙◌, inl, inr, arith, zero, suc}
 use Rattle.std.specs.Int.{bit_at}
 use Rattle.std.proofs.lemmas.Bool.{cases_lt}
 use Rattle.std.proofs.lemmas.Nat.Bits.{bit_at_or, bit_at-lt, same_from_bits_below}
-use Rattle.fp_bits.specs.Words.{IsWithin, or-within, or-grows, or-fits, zero-within, within-or_left, within-or_right, within-trans}
+use Rattle.fp_bits.specs.Words.{IsWithin, or-within, or-fits, zero-within, within-or_left, within-or_right, within-trans}
 use Rattle.fp_eqs.specs.Solution.{joined}
 use Rattle.fp_eqs.specs.Bounds.{sum_below}
 
@@ -18,8 +18,9 @@ sum_below-same f g (suc n) h le i lt =
     let last : f n ≤ g n = h n (omega arith) in
     let before : sum_below f n ≤ sum_below g n = sum_below-le f g n (λ j below. h j (omega arith)) in
     elim (cases_lt i n) [
-      inl small ↦ sum_below-same f g n (λ j below. h j (omega arith)) (omega arith) i small
-    | inr big ↦ (let e : i ≡ n = omega arith in rw e (omega arith)) ]
+      | inl small ↦ sum_below-same f g n (λ j below. h j (omega arith)) (omega arith) i small
+      | inr big ↦ (let e : i ≡ n = omega arith in rw e (omega arith))
+    ]
 
 pub sum_below-most : (f : ℕ → ℕ) (m n : ℕ) → ((i : ℕ) → i < n → f i ≤ m) → sum_below f n ≤ m * n
 sum_below-most f m zero h = omega arith
@@ -33,8 +34,9 @@ pub within-joined : (f : ℕ → ℕ) (n t : ℕ) → t < n → IsWithin (f t) (
 within-joined f zero t lt = absurd (omega arith)
 within-joined f (suc n) t lt =
     elim (cases_lt t n) [
-      inl small ↦ within-trans (f t) (joined f n) (bit_or (joined f n) (f n)) (within-joined f n t small) (within-or_left (joined f n) (f n))
-    | inr big ↦ (let e : t ≡ n = omega arith in rw e (within-or_right (joined f n) (f n))) ]
+      | inl small ↦ within-trans (f t) (joined f n) (bit_or (joined f n) (f n)) (within-joined f n t small) (within-or_left (joined f n) (f n))
+      | inr big ↦ (let e : t ≡ n = omega arith in rw e (within-or_right (joined f n) (f n)))
+    ]
 
 pub joined-fits : (f : ℕ → ℕ) (n : ℕ) → ((t : ℕ) → t < n → f t < 2 ^ 64) → joined f n < 2 ^ 64
 joined-fits f zero h = omega arith

@@ -1,14 +1,11 @@
 -- Answers and contributions, one after another.
-use Rattle.std.proofs.Common.{◌≡◌, ◌==◌, ◌<◌, ◌≤◌, ◌+◌, ◌&&◌, ◌||◌, ◌⊎◌, ℕ, Bool, true, false, not, IsTrue, List, [], ◌∷◌, ◌++◌, Contains, bit_or, length, cond, refl, sym, ap, subst, ◌∙◌, inl, inr, arith, zero, suc}
-use Rattle.std.specs.List.{list_any}
+use Rattle.std.proofs.Common.{◌≡◌, ◌==◌, ◌≤◌, ◌||◌, ◌⊎◌, ℕ, Bool, true, false, IsTrue, List, [], ◌∷◌, ◌++◌, Contains, bit_or, cond, refl, sym, ap, subst, ◌∙◌, inl, inr, arith}
 use Rattle.std.specs.Int.Bits.{or_zero_r, or_zero_l}
-use Rattle.std.proofs.lemmas.Bool.{cases_Bool, not-true}
 use Rattle.std.proofs.lemmas.List.Elements.{Contains-push_cases, Contains-append_left, Contains-append_right, Contains-append_cases, Contains-push}
 use Rattle.std.proofs.lemmas.List.Folds.{list_any-append}
 use Rattle.fp_bits.specs.Words.{or_assoc}
-use Rattle.fp_eqs.specs.Answers.{asked, distinct, Agrees, told, bits_of, IsGiven}
-use Rattle.fp_eqs.specs.Equations.{Task, IsEvaluated}
-use Rattle.fp_eqs.specs.Tests.{left, right, either, both, parts, same-bool, same-place, place-here}
+use Rattle.fp_eqs.specs.Answers.{asked, Agrees, told, bits_of, IsGiven}
+use Rattle.fp_eqs.specs.Tests.{left, right, either, same-bool, same-place, place-here}
 
 pub or-false : (b : Bool) → (b || false) ≡ b
 or-false true = refl
@@ -35,8 +32,9 @@ pub asked-contains : (es : List (ℕ × ℕ)) (p w : ℕ) → Contains es (p, w)
 asked-contains [] p w h = absurd (contains-none (p, w) h)
 asked-contains (e ∷ es) p w h =
     elim (contains-cases e es (p, w) h) [
-      inl here ↦ left (e.0 == p) (asked es p) (let same : e.0 ≡ p = ap (λ (x : ℕ × ℕ). x.0) here in subst (λ q. IsTrue (e.0 == q)) same (place-here e.0))
-    | inr later ↦ right (e.0 == p) (asked es p) (asked-contains es p w later) ]
+      | inl here ↦ left (e.0 == p) (asked es p) (let same : e.0 ≡ p = ap (λ (x : ℕ × ℕ). x.0) here in subst (λ q. IsTrue (e.0 == q)) same (place-here e.0))
+      | inr later ↦ right (e.0 == p) (asked es p) (asked-contains es p w later)
+    ]
 
 -- the answer of a place that was asked
 pub record HasAnswer (es : List (ℕ × ℕ)) (p : ℕ) : Type 0 where
@@ -47,8 +45,9 @@ pub asked-answer : (es : List (ℕ × ℕ)) (p : ℕ) → IsTrue (asked es p) �
 asked-answer [] p h = cc
 asked-answer (e ∷ es) p h =
     elim (either (e.0 == p) (asked es p) h) [
-      inl here ↦ record { answer = e.1; given = subst (λ q. Contains {X = ℕ × ℕ} (e ∷ es) (q, e.1)) (same-place e.0 p here) (contains-here e es) }
-    | inr later ↦ (let r = asked-answer es p later in record { answer = r.answer; given = contains-later e es (p, r.answer) r.given }) ]
+      | inl here ↦ record { answer = e.1; given = subst (λ q. Contains {X = ℕ × ℕ} (e ∷ es) (q, e.1)) (same-place e.0 p here) (contains-here e es) }
+      | inr later ↦ (let r = asked-answer es p later in record { answer = r.answer; given = contains-later e es (p, r.answer) r.given })
+    ]
 
 -- after a question its place is asked, and no other one more
 pub asked-after : (es : List (ℕ × ℕ)) (p w q : ℕ) → asked (told es p w) q ≡ (asked es q || p == q)
@@ -75,8 +74,9 @@ agrees-later a es p w h here q v k = by-test (asked es p) k
     by-test : (b : Bool) → Contains (cond b es (es ++ (p, w) ∷ [])) (q, v) → a q ≡ v
     by-test true k = h q v k
     by-test false k = elim (Contains-push_cases es (p, w) (q, v) k) [
-        inl before ↦ h q v before
-      | inr new ↦ (let same : p ≡ q = ap (λ (x : ℕ × ℕ). x.0) new in let value : w ≡ v = ap (λ (x : ℕ × ℕ). x.1) new in subst (λ r. a r ≡ v) same (here ∙ value)) ]
+      | inl before ↦ h q v before
+      | inr new ↦ (let same : p ≡ q = ap (λ (x : ℕ × ℕ). x.0) new in let value : w ≡ v = ap (λ (x : ℕ × ℕ). x.1) new in subst (λ r. a r ≡ v) same (here ∙ value))
+    ]
 
 pub bits_of-append : (es fs : List (ℕ × ℕ)) (p : ℕ) → bits_of (es ++ fs) p ≡ bit_or (bits_of es p) (bits_of fs p)
 bits_of-append [] fs p = sym (or_zero_l (bits_of fs p))
@@ -91,5 +91,5 @@ one-given before after p w most makes bits few e made same = record {
   appended = e;
   few = few;
   made = λ q v h. subst (λ r. IsTrue (makes r)) (ap (λ (x : ℕ × ℕ). x.0) (contains-one (p, w) (q, v) h)) made;
-  gives = λ q. or_zero_r (cond (p == q) w 0) ∙ same q
+  gives = λ q. or_zero_r (cond (p == q) w 0) ∙ same q;
 }

@@ -1,5 +1,5 @@
 -- The lists of a transfer function's run: the answers that it was given, and the contributions that it made.
-use Rattle.std.specs.Prelude.{◌≡◌, ◌==◌, ◌&&◌, ◌≤◌, ℕ, Bool, true, false, not, List, [], ◌∷◌, ◌++◌, Contains, IsTrue, bit_or, length, if◌then◌else◌}
+use Rattle.std.specs.Prelude.{◌≡◌, ◌==◌, ◌&&◌, ◌≤◌, ℕ, Bool, true, not, List, [], ◌∷◌, ◌++◌, Contains, IsTrue, bit_or, length, if◌then◌else◌}
 use Rattle.std.specs.List.{list_any}
 
 -- whether a place has an answer
@@ -31,3 +31,8 @@ pub record IsGiven (before after : List (ℕ × ℕ)) (most : ℕ) (makes : ℕ 
   pub few : length pairs ≤ most
   pub made : (p w : ℕ) → Contains pairs (p, w) → IsTrue (makes p)
   pub gives : (p : ℕ) → bits_of pairs p ≡ bits p
+
+-- the answers themselves as an assignment, with 0 elsewhere
+abbrev pub at_pairs : List (ℕ × ℕ) → ℕ → ℕ
+at_pairs [] p = 0
+at_pairs (e ∷ es) p = if e.0 == p then e.1 else at_pairs es p

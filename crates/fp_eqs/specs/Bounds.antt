@@ -1,5 +1,5 @@
 -- How many evaluations solve a system on demand.
-use Rattle.std.specs.Prelude.{◌+◌, ◌-◌, ℕ, Bool, if◌then◌else◌}
+use Rattle.std.specs.Prelude.{◌+◌, ◌-◌, ℕ, if◌then◌else◌}
 use Rattle.std.specs.Int.{bit_at}
 use Rattle.std.proofs.Common.{zero, suc}
 use Rattle.fp_eqs.specs.Equations.{Equations}

@@ -1,7 +1,7 @@
 -- How many numbers below a limit pass a test.
-use Rattle.std.specs.Prelude.{◌≡◌, ◌≢◌, ◌==◌, ◌<◌, ◌≤◌, ◌+◌, ◌&&◌, ◌⊎◌, ℕ, Bool, true, false, not, List, [], ◌∷◌, IsTrue, length, if◌then◌else◌, refl}
+use Rattle.std.specs.Prelude.{◌≡◌, ◌≢◌, ◌==◌, ◌<◌, ◌≤◌, ◌+◌, ◌&&◌, ℕ, Bool, true, false, not, List, [], ◌∷◌, IsTrue, length, if◌then◌else◌, refl}
 use Rattle.std.specs.List.{list_any}
-use Rattle.std.proofs.Common.{zero, suc, arith, ap, sym, subst, ◌∙◌, inl, inr}
+use Rattle.std.proofs.Common.{zero, suc, arith, ap, sym, subst, inl, inr}
 use Rattle.std.proofs.lemmas.Bool.{cases_lt, cases_eq, ne_eqb, not-true}
 use Rattle.fp_eqs.specs.Answers.{asked, distinct}
 use Rattle.fp_eqs.specs.Equations.{count_below}
@@ -33,8 +33,9 @@ count_below-same f g (suc n) h le i lt =
     let last = one-le (f n) (g n) (h n (omega arith)) in
     let before = count_below-le f g n (λ j below. h j (omega arith)) in
     elim (cases_lt i n) [
-      inl small ↦ count_below-same f g n (λ j below. h j (omega arith)) (omega (arith, last, before)) i small
-    | inr big ↦ (let e : i ≡ n = omega arith in rw e (same-bool (f n) (g n) (h n (omega arith)) (one-back (f n) (g n) (omega (arith, last, before))))) ]
+      | inl small ↦ count_below-same f g n (λ j below. h j (omega arith)) (omega (arith, last, before)) i small
+      | inr big ↦ (let e : i ≡ n = omega arith in rw e (same-bool (f n) (g n) (h n (omega arith)) (one-back (f n) (g n) (omega (arith, last, before)))))
+    ]
 
 pub count_below-most : (f : ℕ → Bool) (n : ℕ) → count_below f n ≤ n
 count_below-most f zero = omega arith
@@ -63,24 +64,26 @@ pub count_below-but : (f : ℕ → Bool) (q n : ℕ) → count_below f n ≤ cou
 count_below-but f q zero = omega arith
 count_below-but f q (suc n) =
     elim (cases_eq q n) [
-      inl here ↦ (let before = count_below-le f (but f q) n (λ p lt h. but-other f q p (λ e. absurd (omega arith)) h) in omega (arith, before, one-most (f n)))
-    | inr other ↦ omega (arith, count_below-but f q n, one-le (f n) (but f q n) (but-other f q n other)) ]
+      | inl here ↦ (let before = count_below-le f (but f q) n (λ p lt h. but-other f q p (λ e. absurd (omega arith)) h) in omega (arith, before, one-most (f n)))
+      | inr other ↦ omega (arith, count_below-but f q n, one-le (f n) (but f q n) (but-other f q n other))
+    ]
 
 pub count_below-with : (f : ℕ → Bool) (q n : ℕ) → q < n → IsTrue (f q) → count_below (but f q) n + 1 ≤ count_below f n
 count_below-with f q zero lt h = absurd (omega arith)
 count_below-with f q (suc n) lt h =
     let fewer = count_below-le (but f q) f n (λ p _ k. (but-parts f q p k).0) in
     elim (cases_eq q n) [
-      inl here ↦ (let f_here : f n ≡ true = subst (λ r. IsTrue (f r)) here h in let but_here : but f q n ≡ false = subst (λ r. but f q r ≡ false) here (but-here f q) in rw (but_here, f_here) (omega (arith, fewer)))
-    | inr other ↦ (let small : q < n = omega arith in omega (arith, count_below-with f q n small h, one-le (but f q n) (f n) (λ k. (but-parts f q n k).0))) ]
+      | inl here ↦ (let f_here : f n ≡ true = subst (λ r. IsTrue (f r)) here h in let but_here : but f q n ≡ false = subst (λ r. but f q r ≡ false) here (but-here f q) in rw (but_here, f_here) (omega (arith, fewer)))
+      | inr other ↦ (let small : q < n = omega arith in omega (arith, count_below-with f q n small h, one-le (but f q n) (f n) (λ k. (but-parts f q n k).0)))
+    ]
 
 -- no more numbers pass than are listed
 pub count-listed : (f : ℕ → Bool) (ps : List ℕ) (n : ℕ) → ((p : ℕ) → IsTrue (f p) → IsTrue (list_any (λ q. q == p) ps)) → count_below f n ≤ length ps
 count-listed f [] n h = rw (count_below-none f n (λ p _. false-if_not (f p) (λ k. let wrong : false ≡ true = h p k in cc))) (omega arith)
 count-listed f (q ∷ qs) n h =
     let rest = count-listed (but f q) qs n (λ p k.
-      let known = but-parts f q p k in
-      elim (either (q == p) (list_any (λ r. r == p) qs) (h p known.0)) [ inl here ↦ absurd (known.1 (same-place q p here)) | inr later ↦ later ]) in
+    let known = but-parts f q p k in
+    elim (either (q == p) (list_any (λ r. r == p) qs) (h p known.0)) [ inl here ↦ absurd (known.1 (same-place q p here)) | inr later ↦ later ]) in
     omega (arith, rest, count_below-but f q n)
 
 -- distinct places that all pass are no more than pass
@@ -90,6 +93,6 @@ few-distinct (e ∷ es) f n d h b =
     let apart = parts (not (asked es e.0)) (distinct es) d in
     let here = h e.0 (left (e.0 == e.0) (asked es e.0) (place-here e.0)) in
     let rest = few-distinct es (but f e.0) n apart.1
-      (λ p k. but-other f e.0 p (λ s. let twice : IsTrue (asked es e.0) = subst (λ r. IsTrue (asked es r)) (sym s) k in let once = not-true (asked es e.0) apart.0 in cc) (h p (right (e.0 == p) (asked es p) k)))
-      (λ p k. b p (but-parts f e.0 p k).0) in
+    (λ p k. but-other f e.0 p (λ s. let twice : IsTrue (asked es e.0) = subst (λ r. IsTrue (asked es r)) (sym s) k in let once = not-true (asked es e.0) apart.0 in cc) (h p (right (e.0 == p) (asked es p) k)))
+    (λ p k. b p (but-parts f e.0 p k).0) in
     omega (arith, rest, count_below-with f e.0 n (b e.0 here) here)

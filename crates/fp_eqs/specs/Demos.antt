@@ -1,8 +1,8 @@
 -- Two small systems to try solvers on, and why their tasks are lawful.
 use Rattle.std.specs.Prelude.{◌≡◌, ◌≢◌, ◌==◌, ◌<◌, ◌≤◌, ◌+◌, ◌-◌, ◌^◌, ℕ, Bool, true, false, not, nat_lt, IsTrue, ◌∷◌, [], if◌then◌else◌, refl}
-use Rattle.std.proofs.Common.{zero, suc, arith, ap, sym, subst, ◌∙◌}
+use Rattle.std.proofs.Common.{arith, ap, subst}
 use Rattle.std.proofs.lemmas.Bool.{ltb-true, eqb-true, not-true, cond_both}
-use Rattle.fp_bits.specs.Words.{IsWithin, within-refl, within-if}
+use Rattle.fp_bits.specs.Words.{within-refl, within-if}
 use Rattle.fp_eqs.specs.declared.start.Start.{Start}
 use Rattle.fp_eqs.specs.declared.start.Start.TheVariants.{Always, Triggered, Lazy}
 use Rattle.fp_eqs.specs.declared.demo.Shape.{Shape}
@@ -20,7 +20,7 @@ constant_task to = record {
   gives = 1;
   makes = λ p. to == p;
   uses = λ a p. false;
-  out = λ a p. if to == p then 1 else 0
+  out = λ a p. if to == p then 1 else 0;
 }
 
 -- gives the value of a place to another
@@ -31,7 +31,7 @@ copy_task start from to = record {
   gives = 1;
   makes = λ p. to == p;
   uses = λ a p. from == p;
-  out = λ a p. if to == p then a from else 0
+  out = λ a p. if to == p then a from else 0;
 }
 
 abbrev pub chain_start : ℕ → Start
@@ -48,7 +48,7 @@ chain n = record {
   tasks = n;
   task = chain_task;
   fixed = λ p. 0;
-  shown = λ p. p + 1 == n
+  shown = λ p. p + 1 == n;
 }
 
 -- places that have nothing to do with each other, all shown
@@ -58,7 +58,7 @@ apart n = record {
   tasks = n;
   task = constant_task;
   fixed = λ p. 0;
-  shown = λ p. nat_lt p n
+  shown = λ p. nat_lt p n;
 }
 
 abbrev pub shaped : Shape → ℕ → Equations
@@ -94,7 +94,7 @@ constant_task-lawful n to lt = record {
   uses_few = λ a. omega (arith, count_below-none (λ p. false) n (λ p _. refl));
   gives_few = λ a. give-few to n (λ p. if to == p then 1 else 0) (λ p h. some-if (to == p) 1 h);
   out_fits = λ a _ p. fits-if (to == p) 1 (omega arith);
-  waits = λ q a h. cc
+  waits = λ q a h. cc;
 }
 
 pub copy_task-lawful : (start : Start) (n from to : ℕ) → ((q : ℕ) → start ≢ Triggered q) → from < n → to < n → IsLawful n (copy_task start from to)
@@ -109,7 +109,7 @@ copy_task-lawful start n from to free from_in to_in = record {
   uses_few = λ a. count-listed (λ p. from == p) (from ∷ []) n (λ p h. left (from == p) false h);
   gives_few = λ a. give-few to n (λ p. if to == p then a from else 0) (λ p h. some-if (to == p) (a from) h);
   out_fits = λ a fits p. fits-if (to == p) (a from) (fits from);
-  waits = λ q a h. absurd (free q h)
+  waits = λ q a h. absurd (free q h);
 }
 
 chain_start-free : (b : Bool) (q : ℕ) → (if b then Always else Lazy) ≢ Triggered q
@@ -127,7 +127,7 @@ chain-laws n = record {
   lawful = chain_task-lawful n;
   fixed_fits = λ p. omega arith;
   fixed_places = λ p _. refl;
-  shown_places = λ p h. let e = eqb-true (p + 1) n h in omega arith
+  shown_places = λ p h. let e = eqb-true (p + 1) n h in omega arith;
 }
 
 pub apart-laws : (n : ℕ) → IsMonotone (apart n)
@@ -135,7 +135,7 @@ apart-laws n = record {
   lawful = constant_task-lawful n;
   fixed_fits = λ p. omega arith;
   fixed_places = λ p _. refl;
-  shown_places = λ p h. ltb-true p n h
+  shown_places = λ p h. ltb-true p n h;
 }
 
 pub shaped-laws : (shape : Shape) (n : ℕ) → IsMonotone (shaped shape n)

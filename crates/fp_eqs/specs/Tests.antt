@@ -1,7 +1,6 @@
 -- Tests that are true or false, and tests over the numbers below a limit.
-use Rattle.std.proofs.Common.{◌≡◌, ◌≢◌, ◌==◌, ◌<◌, ◌≤◌, ◌+◌, ◌&&◌, ◌||◌, ◌⊎◌, ℕ, Bool, true, false, not, IsTrue, refl, sym, ap, subst, ◌∙◌, inl, inr, arith, zero, suc}
-use Rattle.std.proofs.lemmas.Bool.{cases_lt, cases_Bool, eqb-true, eq-eqb, and_parts, or_cases, true_from_ne_false}
-use Rattle.fp_eqs.specs.Equations.{count_below}
+use Rattle.std.proofs.Common.{◌≡◌, ◌==◌, ◌<◌, ◌&&◌, ◌||◌, ◌⊎◌, ℕ, Bool, true, false, IsTrue, refl, sym, subst, inl, inr, arith, zero, suc}
+use Rattle.std.proofs.lemmas.Bool.{cases_lt, eqb-true, eq-eqb}
 use Rattle.fp_eqs.specs.Demand.{any_below}
 
 pub left : (b c : Bool) → IsTrue b → IsTrue (b || c)
@@ -51,8 +50,9 @@ pub any-here : (f : ℕ → Bool) (n i : ℕ) → i < n → IsTrue (f i) → IsT
 any-here f zero i lt h = absurd (omega arith)
 any-here f (suc n) i lt h =
     elim (cases_lt i n) [
-      inl small ↦ left (any_below f n) (f n) (any-here f n i small h)
-    | inr big ↦ right (any_below f n) (f n) (let e : i ≡ n = omega arith in subst (λ j. IsTrue (f j)) e h) ]
+      | inl small ↦ left (any_below f n) (f n) (any-here f n i small h)
+      | inr big ↦ right (any_below f n) (f n) (let e : i ≡ n = omega arith in subst (λ j. IsTrue (f j)) e h)
+    ]
 
 -- a number that passes
 pub record IsFound (f : ℕ → Bool) (n : ℕ) : Type 0 where
@@ -64,8 +64,9 @@ pub any-found : (f : ℕ → Bool) (n : ℕ) → IsTrue (any_below f n) → IsFo
 any-found f zero h = cc
 any-found f (suc n) h =
     elim (either (any_below f n) (f n) h) [
-      inl before ↦ (let r = any-found f n before in record { at = r.at; below = omega (arith, r.below); passes = r.passes })
-    | inr here ↦ record { at = n; below = omega arith; passes = here } ]
+      | inl before ↦ (let r = any-found f n before in record { at = r.at; below = omega (arith, r.below); passes = r.passes })
+      | inr here ↦ record { at = n; below = omega arith; passes = here }
+    ]
 
 pub any-grows : (f g : ℕ → Bool) (n : ℕ) → ((i : ℕ) → i < n → IsTrue (f i) → IsTrue (g i)) → IsTrue (any_below f n) → IsTrue (any_below g n)
 any-grows f g n h k = let r = any-found f n k in any-here g n r.at r.below (h r.at r.below r.passes)

@@ -9,8 +9,10 @@ use crate::start::{Bound, Start};
 /// Two analyses over the same places as one: the tasks of the first, and then those of the second.
 #[derive(Drop)]
 pub struct Both<X: Analysis + Drop, Y: Analysis + Drop> {
-    first: X,
-    second: Y,
+    /// The analysis whose tasks come first.
+    pub first: X,
+    /// The analysis whose tasks follow.
+    pub second: Y,
     ghost same_places: { X.places first ≡ Y.places second },
     ghost few: { (X.meaning first).count + (Y.meaning second).count < 2 ^ 32 },
 }

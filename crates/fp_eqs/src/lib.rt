@@ -7,6 +7,7 @@ mod both;
 mod counted;
 mod demo;
 mod gives;
+mod naming;
 mod plain;
 mod solved;
 mod start;
@@ -18,7 +19,11 @@ pub use both::Both;
 pub use counted::Counted;
 pub use demo::Demo;
 pub use gives::Gives;
+pub use naming::Naming;
 pub use plain::rounds;
 pub use solved::Solved;
 pub use start::{Bound, Start};
 pub use system::System;
+
+#[cfg(test)]
+mod tests;

@@ -63,7 +63,12 @@ pub struct Evaluation {
 }
 
 /// Evaluates a task at a list of values.
-pub fn evaluate<S: System>(alloc: Global, system: &S, values: &[u64], task: u32) -> Result<Evaluation, AllocError>
+pub fn evaluate<S: System>(
+    alloc: Global,
+    system: &S,
+    values: &[u64],
+    task: u32,
+) -> Result<Evaluation, AllocError>
     requires task { task < (S.equations system.now).tasks }
     requires long { length values.now ≡ (S.equations system.now).places }
     ensures asks { IfOk result (λ v. (p : ℕ) → asked v.answers.items p ≡ ((S.equations system.now).task task).uses (slice_index values.now) p) }
@@ -87,4 +92,56 @@ pub fn evaluate<S: System>(alloc: Global, system: &S, values: &[u64], task: u32)
         answers,
     } = ask;
     Ok(Evaluation { answers, given })
+}
+
+#[cfg(test)]
+mod tests {
+    use super::*;
+    use crate::counted::Counted;
+    use crate::demo::Demo;
+    use std::marker::Brand;
+    use std::sync::ledger::{Blank, Ledger};
+    use std::test::Fail;
+
+    /// What a task contributes at a list of values, evaluated through a count.
+    fn counted_gives<S: System, L: Ledger>(
+        alloc: Global,
+        system: &S,
+        values: &[u64],
+        task: u32,
+        blank: Blank,
+    ) -> Result<Gives, AllocError>
+        requires task { task < (S.equations system.now).tasks }
+        requires long { length values.now ≡ (S.equations system.now).places }
+        requires name { blank.name ≡ L.name }
+        requires parts { blank.parts ≡ L.parts }
+        requires some { 0 < blank.parts }
+    {
+        let mut counted: Counted<'_, S, L> = Counted::new(system, blank);
+        let bound = counted.bound(task);
+        let answers = Vec::with_capacity(alloc, bound.asks as usize)?;
+        let mut given = Gives::new(alloc);
+        given.reserve(bound.gives)?;
+        let mut ask = Known {
+            system,
+            task,
+            values,
+            answers,
+        };
+        counted.eval(task, &mut ask, &mut given);
+        Ok(given)
+    }
+
+    #[test]
+    fn a_counted_evaluation_gives(rt: HostRuntime) -> Result<(), Fail> {
+        let given = counted_gives::<Demo, Brand>(
+            rt.alloc(),
+            &Demo::chain(3),
+            &[1, 0, 0],
+            1,
+            Blank::new(1),
+        )?;
+        assert_eq!(rt; given.list(), [(1, 1)].as_slice());
+        Ok(())
+    }
 }

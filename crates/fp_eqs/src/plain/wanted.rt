@@ -10,7 +10,11 @@ use crate::system::System;
 use std::alloc::{AllocError, Global};
 
 /// Whether each place is demanded, where the values are those of the least solution.
-pub fn wanted_places<S: System>(alloc: Global, system: &S, values: &[u64]) -> Result<Vec<bool>, AllocError>
+pub fn wanted_places<S: System>(
+    alloc: Global,
+    system: &S,
+    values: &[u64],
+) -> Result<Vec<bool>, AllocError>
     requires long { length values.now ≡ (S.equations system.now).places }
     requires solution { slice_index values.now ≡ solution (S.equations system.now) }
     ensures long { IfOk result (λ v. length v.items ≡ (S.equations system.now).places) }
@@ -37,7 +41,12 @@ fn shown_places<S: System>(alloc: Global, system: &S) -> Result<Vec<bool>, Alloc
 }
 
 /// The places wanted after one round: those before it, and those that the tasks which they start use.
-fn next_wanted<S: System>(alloc: Global, system: &S, values: &[u64], wanted: &[bool]) -> Result<Vec<bool>, AllocError>
+fn next_wanted<S: System>(
+    alloc: Global,
+    system: &S,
+    values: &[u64],
+    wanted: &[bool],
+) -> Result<Vec<bool>, AllocError>
     requires long { length values.now ≡ (S.equations system.now).places }
     requires flags { length wanted.now ≡ (S.equations system.now).places }
     requires solution { slice_index values.now ≡ solution (S.equations system.now) }
@@ -52,7 +61,14 @@ fn next_wanted<S: System>(alloc: Global, system: &S, values: &[u64], wanted: &[b
 }
 
 /// Marks the places that a task uses, if the wanted ones start it.
-fn want_used<S: System>(alloc: Global, system: &S, values: &[u64], wanted: &[bool], task: u32, next: &mut Vec<bool>) -> Result<(), AllocError>
+fn want_used<S: System>(
+    alloc: Global,
+    system: &S,
+    values: &[u64],
+    wanted: &[bool],
+    task: u32,
+    next: &mut Vec<bool>,
+) -> Result<(), AllocError>
     requires task { task < (S.equations system.now).tasks }
     requires long { length values.now ≡ (S.equations system.now).places }
     requires flags { length wanted.now ≡ (S.equations system.now).places }

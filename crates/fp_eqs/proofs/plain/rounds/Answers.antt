@@ -17,7 +17,7 @@ returns-clause-solved g c =
       wanted_count = ap length c.from_vec-wanted.ensures ∙ c.in_ok-wanted.ensures.long;
       wanted = λ p i. wanted i p;
       exact = λ p _ i. values i p;
-      within = λ p. subst (λ (a : ℕ → ℕ). IsWithin (a p) (solution e p)) (sym values) (within-refl (solution e p))
+      within = λ p. subst (λ (a : ℕ → ℕ). IsWithin (a p) (solution e p)) (sym values) (within-refl (solution e p));
     }
 
 pub returns-clause-least : goal.returns-clause-least

@@ -1,4 +1,4 @@
-use Rattle.std.proofs.Common.{◌≡◌, ◌-◌, ◌∷◌, [], ◌∙◌, ap, rules, ℕ, List}
+use Rattle.std.proofs.Common.{◌≡◌, ◌-◌, ◌∷◌, [], ◌∙◌, ap, ℕ, List}
 use Rattle.fp_eqs.specs.Answers.{told}
 use Rattle.fp_eqs.specs.Demos.{chain_start}
 use Rattle.fp_eqs.proofs.DemoLemmas.{chain_task-next, copy-evaluated}

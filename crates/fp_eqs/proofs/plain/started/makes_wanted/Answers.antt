@@ -1,4 +1,4 @@
-use Rattle.std.proofs.Common.{◌≡◌, ◌&&◌, IsTrue, sym, ◌∙◌, arith}
+use Rattle.std.proofs.Common.{◌&&◌, IsTrue, sym, ◌∙◌, arith}
 use Rattle.fp_eqs.specs.Solved.{flag_at}
 use Rattle.fp_eqs.specs.Tests.{both, any-here}
 use Rattle.fp_eqs.proofs.plain.started.makes_wanted.Goals as goal

@@ -4,5 +4,5 @@ use Rattle.fp_eqs.proofs.plain.values.fixed_values.Given as goal
 abbrev pub invariant-loop-place : goal.invariant-loop-place
 invariant-loop-place g l = record {
   long : length l.values.items ≡ l.place;
-  fixed : (p : ℕ) → p < l.place → get_or l.values.items p 0 ≡ (g.S.System.equations l.system).fixed p
+  fixed : (p : ℕ) → p < l.place → get_or l.values.items p 0 ≡ (g.S.System.equations l.system).fixed p;
 }

@@ -1,4 +1,4 @@
-use Rattle.std.proofs.Common.{◌≡◌, ◌<◌, ℕ, length, get_or, refl, sym, arith, rules, Contains}
+use Rattle.std.proofs.Common.{◌≡◌, ◌<◌, length, get_or, refl, sym, arith}
 use Rattle.std.specs.Int.Bits.{or_zero_r}
 use Rattle.std.proofs.lemmas.List.{get_or_read}
 use Rattle.std.proofs.lemmas.List.Elements.{Contains-get_or}
@@ -27,5 +27,5 @@ loop-place-preserved c =
     let word : c.index-word.result.now ≡ get_or now e.0 0 = get_or_read now e.0 _ inside c.index-word.ensures 0 in
     record {
       long = rw length-set c.loop-place.invariant.long;
-      words = λ p. rw word (joins-more c.args.values.now.items now c.args.pairs.now c.loop-place.place-index e.0 e.1 c.loop-place-test.true refl inside c.loop-place.invariant.words p)
+      words = λ p. rw word (joins-more c.args.values.now.items now c.args.pairs.now c.loop-place.place-index e.0 e.1 c.loop-place-test.true refl inside c.loop-place.invariant.words p);
     }

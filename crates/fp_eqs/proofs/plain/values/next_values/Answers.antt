@@ -1,4 +1,4 @@
-use Rattle.std.proofs.Common.{◌≡◌, ◌<◌, ◌∙◌, ℕ, length, get_or, slice_index, refl, sym, ap, subst, arith, rules, bit_or}
+use Rattle.std.proofs.Common.{◌≡◌, ◌∙◌, get_or, slice_index, sym, arith}
 use Rattle.std.specs.Int.Bits.{or_zero_r}
 use Rattle.fp_eqs.specs.Answers.{bits_of}
 use Rattle.fp_eqs.proofs.Joins.{given-bits, given-made, round-more}
@@ -23,7 +23,7 @@ loop-task-preserved g c =
     let given = rw (← c.list.ensures) at c.in_ok-evaluation.ensures.gives in
     record {
       long = c.join_pairs.ensures.long ∙ c.loop-task.invariant.long;
-      words = λ p. round-more (λ u. (e.task u).out a p) t (get_or c.args.values.now p 0) _ _ (bits_of c.list.result.now p) (c.loop-task.invariant.words p) (c.join_pairs.ensures.words p) (given-bits _ _ _ _ given p)
+      words = λ p. round-more (λ u. (e.task u).out a p) t (get_or c.args.values.now p 0) _ _ (bits_of c.list.result.now p) (c.loop-task.invariant.words p) (c.join_pairs.ensures.words p) (given-bits _ _ _ _ given p);
     }
 
 pub returns-clause-round : goal.returns-clause-round

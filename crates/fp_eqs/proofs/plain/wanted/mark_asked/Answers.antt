@@ -1,4 +1,4 @@
-use Rattle.std.proofs.Common.{◌≡◌, ◌<◌, length, get_or, refl, arith}
+use Rattle.std.proofs.Common.{◌<◌, length, get_or, refl, arith}
 use Rattle.std.proofs.lemmas.List.Elements.{Contains-get_or}
 use Rattle.std.proofs.Math.ListN.{length-set}
 use Rattle.fp_eqs.proofs.Flags.{marks-more}
@@ -16,5 +16,5 @@ loop-place-preserved c =
     let inside : e.0 < length now = rw c.loop-place.invariant.long (c.requires _ _ (Contains-get_or c.args.answers.now c.loop-place.place-index (0, 0) c.loop-place-test.true)) in
     record {
       long = rw length-set c.loop-place.invariant.long;
-      marked = marks-more c.args.flags.now.items now c.args.answers.now c.loop-place.place-index e.0 e.1 c.loop-place-test.true refl inside c.loop-place.invariant.marked
+      marked = marks-more c.args.flags.now.items now c.args.answers.now c.loop-place.place-index e.0 e.1 c.loop-place-test.true refl inside c.loop-place.invariant.marked;
     }

@@ -10,7 +10,7 @@ loop-round-preserved g c =
     record {
       long = c.in_ok-next.ensures.long;
       flags = rw add-one (c.in_ok-next.ensures.round ∙ ap {B = ℕ → Bool} (λ (xs : List Bool). demand_round e (flag_at xs)) c.deref.ensures.value
-        ∙ ap {B = ℕ → Bool} (λ (d : ℕ → Bool). demand_round e d) c.loop-round.invariant.flags)
+          ∙ ap {B = ℕ → Bool} (λ (d : ℕ → Bool). demand_round e d) c.loop-round.invariant.flags);
     }
 
 pub returns-clause-demand : goal.returns-clause-demand

@@ -6,5 +6,5 @@ use Rattle.fp_eqs.proofs.plain.wanted.wanted_places.Given as goal
 abbrev pub invariant-loop-round : goal.invariant-loop-round
 invariant-loop-round g l = record {
   long : length l.wanted.items ≡ (g.S.System.equations l.system).places;
-  flags : flag_at l.wanted.items ≡ demand_after (g.S.System.equations l.system) l._round
+  flags : flag_at l.wanted.items ≡ demand_after (g.S.System.equations l.system) l._round;
 }

@@ -1,6 +1,6 @@
 -- A place that is asked is used at the values, so it is one of the places, and its answer has room.
-use Rattle.std.proofs.Common.{◌≡◌, ◌<◌, false, IsTrue, length, slice_index, ap, ◌∙◌, refl, arith}
-use Rattle.fp_eqs.specs.Answers.{asked, Agrees, distinct}
+use Rattle.std.proofs.Common.{◌≡◌, false, slice_index, refl, arith}
+use Rattle.fp_eqs.specs.Answers.{asked}
 use Rattle.fp_eqs.proofs.ReadingLemmas.{agrees-push, distinct-push, used-push, room-left}
 use Rattle.fp_eqs.proofs.plain.known.KnownAsk.read.Goals as goal
 
