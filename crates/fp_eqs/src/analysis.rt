@@ -6,8 +6,8 @@ use crate::ask::Ask;
 use crate::gives::Gives;
 use crate::start::{Bound, Start};
 
-/// The tasks of one analysis, numbered from 0, over the places that it was made with. A system is put together of
-/// analyses. No call takes memory.
+/// The tasks of one analysis, numbered from 0, over the places that it was made with. A system is
+/// put together of analyses. No call takes memory.
 pub trait Analysis {
     ghost meaning: { Self → Tasks };
 
@@ -30,14 +30,14 @@ pub trait Analysis {
         ensures asks { result.asks ≡ ((meaning self.now).task task).asks }
         ensures gives { result.gives ≡ ((meaning self.now).task task).gives };
 
-    /// The `k`-th lazy task, in ascending order and counted from 0, that can give to a place, or `None` where there are
-    /// not so many.
+    /// The `k`-th lazy task, in ascending order and counted from 0, that can give to a place, or
+    /// `None` where there are not so many.
     fn maker(&self, place: u32, k: u32) -> Option<u32>
         requires { place < places self.now }
         ensures { IsMakerOf (meaning self.now).task (meaning self.now).count place k result };
 
-    /// Runs a task's transfer function: it asks for the values of exactly the places that it uses at the values answered,
-    /// and adds exactly its contributions there.
+    /// Runs a task's transfer function: it asks for the values of exactly the places that it uses
+    /// at the values answered, and adds exactly its contributions there.
     fn eval<A: Ask>(&self, task: u32, ask: &mut A, give: &mut Gives)
         requires task { task < (meaning self.now).count }
         requires fresh { A.answers ask.old ≡ [] }

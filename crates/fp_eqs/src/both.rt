@@ -52,7 +52,9 @@ impl<X: Analysis + Drop, Y: Analysis + Drop> Analysis for Both<X, Y> {
 
     ghost places = { λ b. X.places b.first };
 
-    ghost lawful = { λ b. both_tasks-lawful (X.places b.first) (X.meaning b.first) (Y.meaning b.second) (X.lawful b.first) (subst (λ n. AllLawful n (Y.meaning b.second)) (sym b.same_places) (Y.lawful b.second)) };
+    ghost lawful = { λ b.
+        let second = subst (λ n. AllLawful n (Y.meaning b.second)) (sym b.same_places) (Y.lawful b.second) in
+        both_tasks-lawful (X.places b.first) (X.meaning b.first) (Y.meaning b.second) (X.lawful b.first) second };
 
     fn tasks(&self) -> u32 {
         self.first.tasks() + self.second.tasks()

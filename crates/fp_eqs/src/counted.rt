@@ -11,8 +11,8 @@ use std::sync::ledger::{Blank, Book, Ledger, Share};
 
 /// A system whose evaluations are counted, by a number that is not there at run time.
 ///
-/// It has the calls of a system, of which only `eval` raises the number. It is no system itself, so that nobody counts
-/// afresh, and it never hands its system out.
+/// It has the calls of a system, of which only `eval` raises the number. It is no system itself, so
+/// that nobody counts afresh, and it never hands its system out.
 #[derive(Drop)]
 pub struct Counted<'s, S: System, L: Ledger> {
     system: &'s S,
@@ -95,8 +95,8 @@ impl<'s, S: System, L: Ledger> Counted<'s, S, L> {
         self.system.shown(place)
     }
 
-    /// The `k`-th lazy task, in ascending order and counted from 0, that can give to a place, or `None` where there are
-    /// not so many.
+    /// The `k`-th lazy task, in ascending order and counted from 0, that can give to a place, or
+    /// `None` where there are not so many.
     pub fn maker(&self, place: u32, k: u32) -> Option<u32>
         requires { place < (S.equations self.now.system).places }
         ensures { IsMakerOf (S.equations self.now.system).task (S.equations self.now.system).tasks place k result }

@@ -23,8 +23,9 @@ pub struct Demo {
 }
 
 impl Demo {
-    /// So many places in a row: task 0 gives 1 to place 0, and each other task gives the value of the place before its
-    /// own to its own. Tasks 0 and 1 are always started, the others lazily, and the last place is shown.
+    /// So many places in a row: task 0 gives 1 to place 0, and each other task gives the value of
+    /// the place before its own to its own. Tasks 0 and 1 are always started, the others lazily,
+    /// and the last place is shown.
     pub fn chain(count: u32) -> Demo
         requires { 2 ≤ count }
         ensures { demo_equations result ≡ chain count }
@@ -35,7 +36,8 @@ impl Demo {
         }
     }
 
-    /// So many tasks that are always started, each of which gives 1 to its own place. All places are shown.
+    /// So many tasks that are always started, each of which gives 1 to its own place. All places
+    /// are shown.
     pub fn apart(count: u32) -> Demo
         ensures equations { demo_equations result ≡ apart count }
         ensures bound { evaluation_bound (demo_equations result) ≡ count }

@@ -1,4 +1,5 @@
-//! Systems of monotone equations over numbered places: their contract, their laws, and the plain solver.
+//! Systems of monotone equations over numbered places: their contract, their laws, and the plain
+//! solver.
 #![tactic(auto)]
 
 mod analysis;

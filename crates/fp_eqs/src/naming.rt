@@ -2,7 +2,8 @@ ghost use Rattle.fp_eqs.specs.Equations.{Equations, IsMonotone};
 
 use std::marker::Brand;
 
-/// Names a system in types, for a store that many threads share. A caller picks the system at a call with `Brand`.
+/// Names a system in types, for a store that many threads share. A caller picks the system at a
+/// call with `Brand`.
 pub trait Naming {
     ghost equations: { Equations };
 

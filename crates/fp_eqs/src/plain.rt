@@ -15,9 +15,11 @@ use std::alloc::{AllocError, Global};
 use values::solved_values;
 use wanted::wanted_places;
 
-/// Solves a system by whole rounds over all places and tasks, as the definitions of solution and demand do.
+/// Solves a system by whole rounds over all places and tasks, as the definitions of solution and
+/// demand do.
 ///
-/// It is plain and slow: one round per bit of the system and one more, and then one per place and one more.
+/// It is plain and slow: one round per bit of the system and one more, and then one per place and
+/// one more.
 pub fn rounds<S: System>(alloc: Global, system: &S) -> Result<Solved, AllocError>
     ensures solved { IfOk result (IsSolved (S.equations system.now)) }
     ensures solution { IfOk result (λ s. slice_index s.values ≡ solution (S.equations system.now)) }

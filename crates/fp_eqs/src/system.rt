@@ -8,8 +8,8 @@ use crate::start::{Bound, Start};
 
 /// A system of monotone equations over numbered places, whose values are words of 64 bits.
 ///
-/// Each task has a transfer function, which uses some places of an assignment and contributes bits to others. All calls
-/// but making a system take no memory.
+/// Each task has a transfer function, which uses some places of an assignment and contributes bits
+/// to others. All calls but making a system take no memory.
 pub trait System {
     ghost equations: { Self → Equations };
 
@@ -44,14 +44,14 @@ pub trait System {
         requires { place < (equations self.now).places }
         ensures { result ≡ (equations self.now).shown place };
 
-    /// The `k`-th lazy task, in ascending order and counted from 0, that can give to a place, or `None` where there are
-    /// not so many.
+    /// The `k`-th lazy task, in ascending order and counted from 0, that can give to a place, or
+    /// `None` where there are not so many.
     fn maker(&self, place: u32, k: u32) -> Option<u32>
         requires { place < (equations self.now).places }
         ensures { IsMakerOf (equations self.now).task (equations self.now).tasks place k result };
 
-    /// Runs a task's transfer function: it asks for the values of exactly the places that it uses at the values answered,
-    /// and adds exactly its contributions there.
+    /// Runs a task's transfer function: it asks for the values of exactly the places that it uses
+    /// at the values answered, and adds exactly its contributions there.
     fn eval<A: Ask>(&self, task: u32, ask: &mut A, give: &mut Gives)
         requires task { task < (equations self.now).tasks }
         requires fresh { A.answers ask.old ≡ [] }

@@ -18,7 +18,8 @@ struct Known<'a, S: System> {
     ghost task_in: { task < (S.equations system.now).tasks },
     ghost long: { length values.now ≡ (S.equations system.now).places },
     ghost same: { Agrees (slice_index values.now) answers.items },
-    ghost used: { (p : ℕ) → IsTrue (asked answers.items p) → IsTrue (((S.equations system.now).task task).uses (slice_index values.now) p) },
+    ghost used: { (p : ℕ) → IsTrue (asked answers.items p) →
+        IsTrue (((S.equations system.now).task task).uses (slice_index values.now) p) },
     ghost once: { IsTrue (distinct answers.items) },
     ghost room: { ((S.equations system.now).task task).asks ≤ vec_capacity answers },
 }
@@ -71,8 +72,10 @@ pub fn evaluate<S: System>(
 ) -> Result<Evaluation, AllocError>
     requires task { task < (S.equations system.now).tasks }
     requires long { length values.now ≡ (S.equations system.now).places }
-    ensures asks { IfOk result (λ v. (p : ℕ) → asked v.answers.items p ≡ ((S.equations system.now).task task).uses (slice_index values.now) p) }
-    ensures gives { IfOk result (λ v. IsGiven [] v.given.list ((S.equations system.now).task task).gives ((S.equations system.now).task task).makes (((S.equations system.now).task task).out (slice_index values.now))) }
+    ensures asks { let k = (S.equations system.now).task task in
+        IfOk result (λ v. (p : ℕ) → asked v.answers.items p ≡ k.uses (slice_index values.now) p) }
+    ensures gives { let k = (S.equations system.now).task task in
+        IfOk result (λ v. IsGiven [] v.given.list k.gives k.makes (k.out (slice_index values.now))) }
 {
     let bound = system.bound(task);
     let answers = Vec::with_capacity(alloc, bound.asks as usize)?;

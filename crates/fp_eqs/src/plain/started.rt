@@ -24,7 +24,8 @@ fn makes_wanted<S: System>(system: &S, wanted: &[bool], task: u32) -> bool
     requires task { task < (S.equations system.now).tasks }
     requires lazy { is_lazy ((S.equations system.now).task task).start ≡ true }
     requires long { length wanted.now ≡ (S.equations system.now).places }
-    ensures { result ≡ any_below (λ p. ((S.equations system.now).task task).makes p && flag_at wanted.now p) (S.equations system.now).places }
+    ensures { let e = S.equations system.now in
+        result ≡ any_below (λ p. (e.task task).makes p && flag_at wanted.now p) e.places }
 {
     for place in 0..system.places() {
         if wanted[place as usize] && makes_place(system, place, task) {

@@ -49,7 +49,8 @@ fn next_values<S: System>(alloc: Global, system: &S, values: &[u64]) -> Result<V
 fn join_pairs(values: &mut Vec<u64>, pairs: &[(u32, u64)])
     requires { (p w : ℕ) → Contains pairs.now (p, w) → p < length values.old.items }
     ensures long { length values.new.items ≡ length values.old.items }
-    ensures words { (p : ℕ) → slice_index values.new.items p ≡ bit_or (slice_index values.old.items p) (bits_of pairs.now p) }
+    ensures words { (p : ℕ) → slice_index values.new.items p ≡
+        bit_or (slice_index values.old.items p) (bits_of pairs.now p) }
 {
     for (place, bits) in pairs {
         let at = *place as usize;

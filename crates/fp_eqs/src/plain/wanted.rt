@@ -40,7 +40,8 @@ fn shown_places<S: System>(alloc: Global, system: &S) -> Result<Vec<bool>, Alloc
     Ok(shown)
 }
 
-/// The places wanted after one round: those before it, and those that the tasks which they start use.
+/// The places wanted after one round: those before it, and those that the tasks which they start
+/// use.
 fn next_wanted<S: System>(
     alloc: Global,
     system: &S,
@@ -74,7 +75,9 @@ fn want_used<S: System>(
     requires flags { length wanted.now ≡ (S.equations system.now).places }
     requires room { length next.old.items ≡ (S.equations system.now).places }
     ensures long { IfOk result (λ _. length next.new.items ≡ length next.old.items) }
-    ensures used { IfOk result (λ _. (p : ℕ) → flag_at next.new.items p ≡ (flag_at next.old.items p || is_started (S.equations system.now) (flag_at wanted.now) task && ((S.equations system.now).task task).uses (slice_index values.now) p)) }
+    ensures used { let e = S.equations system.now in
+        IfOk result (λ _. (p : ℕ) → flag_at next.new.items p ≡
+        (flag_at next.old.items p || is_started e (flag_at wanted.now) task && (e.task task).uses (slice_index values.now) p)) }
 {
     if starts(system, wanted, task) {
         let evaluation = evaluate(alloc, system, values, task)?;
