@@ -13,8 +13,8 @@ pub struct Both<X: Analysis + Drop, Y: Analysis + Drop> {
     pub first: X,
     /// The analysis whose tasks follow.
     pub second: Y,
-    ghost same_places: { X.places first ≡ Y.places second },
-    ghost few: { (X.meaning first).count + (Y.meaning second).count < 2 ^ 32 },
+    pub ghost same_places: { X.places first ≡ Y.places second },
+    pub ghost few: { (X.meaning first).count + (Y.meaning second).count < 2 ^ 32 },
 }
 
 impl<X: Analysis + Drop, Y: Analysis + Drop> Both<X, Y> {
