@@ -1,5 +1,5 @@
 -- Texts taken into a table of names, one after the other.
-use Rattle.std.proofs.Common.{◌≡◌, ℕ, cond, ◌+◌, ◌<◌, false, ◌||◌, not, List, [], ◌∷◌, ◌++◌, Result, Ok, Err, IfOk, OnErr, Some, length, get_or, take, drop, refl, sym, ap, ◌∙◌, subst, arith}
+use Rattle.std.proofs.Common.{◌≡◌, ℕ, cond, ◌+◌, ◌<◌, ◌≤◌, Bool, true, false, ◌||◌, not, List, [], ◌∷◌, ◌++◌, Result, Ok, Err, IfOk, OnErr, Some, length, get_or, take, drop, refl, sym, ap, ◌∙◌, subst, length-append, arith}
 use Rattle.std.specs.Result.{IsErrOf, is_ok, is_err}
 use Rattle.std.specs.List.{list_any, flat_map, slice_get}
 use Rattle.std.proofs.lemmas.Bool.{or_left, or_right}
@@ -22,6 +22,19 @@ lacks_first names a b lacks = (lacks.0, list_any-append (λ text. not (has_name 
 lacks_rest : (names a b : List (List ℕ)) → LacksRoom names b → LacksRoom names (a ++ b)
 lacks_rest names a b lacks = (lacks.0, list_any-append (λ text. not (has_name names text)) a b ∙ or_right (list_any (λ text. not (has_name names text)) a) (list_any (λ text. not (has_name names text)) b) lacks.1)
 
+one_more : (names : List (List ℕ)) (text : List ℕ) (has : Bool) → length (cond has names (names ++ text ∷ [])) ≤ length names + 1
+one_more names text true = omega arith
+one_more names text false = omega (arith, length-append names (text ∷ []))
+
+length-with_name-le : (names : List (List ℕ)) (text : List ℕ) → length (with_name names text) ≤ length names + 1
+unfolding with_name
+length-with_name-le names text = one_more names text (has_name names text)
+
+-- a table gains no more names than there are texts
+length-with_names-le : (names texts : List (List ℕ)) → length (with_names names texts) ≤ length names + length texts
+length-with_names-le names [] = omega arith
+length-with_names-le names (text ∷ texts) = omega (arith, length-with_name-le names text, length-with_names-le (with_name names text) texts)
+
 -- ---- steps
 
 -- one text
@@ -32,7 +45,12 @@ interned_one (Ok id) old new text named same full =
 interned_one (Err e) old new text named same full = record {
   names = tt;
   grown = ([], same ∙ sym (append-nil old));
-  full = λ is. let lacks = full is in subst (λ t. LacksRoom t (text ∷ [])) (sym same) (lacks.1, ap (λ b. not b || false) lacks.0);
+  full = λ is.
+    let lacks = full is in
+    record {
+      lacks = subst (λ t. LacksRoom t (text ∷ [])) (sym same) (lacks.1, ap (λ b. not b || false) lacks.0);
+      few = omega (arith, ap length same);
+    };
 }
 
 -- none
@@ -53,7 +71,12 @@ interned_then (Err f) old mid new a b is then =
     record {
       names = tt;
       grown = (first.0 ++ then.grown.0, then.grown.1 ∙ ap (λ t. t ++ then.grown.0) (is ∙ first.1) ∙ append_assoc old first.0 then.grown.0);
-      full = λ e. lacks_rest new a b (then.full e);
+      full = λ e.
+        let late = then.full e in
+        record {
+          lacks = lacks_rest new a b late.lacks;
+          few = omega (arith, late.few, ap length is, length-with_names-le old a, length-append a b);
+        };
     }
 
 -- a call that failed, and others that don't come to pass
@@ -61,7 +84,10 @@ pub interned_stop : {X Y : Type 0} (f : NameFault) (old new a b : List (List ℕ
 interned_stop f old new a b stopped = record {
   names = tt;
   grown = stopped.grown;
-  full = λ e. let is : f ≡ fault.Full = cc in lacks_first new a b (stopped.full (ap Err is));
+  full = λ e.
+    let is : f ≡ fault.Full = cc in
+    let early = stopped.full (ap Err is) in
+    record { lacks = lacks_first new a b early.lacks; few = omega (arith, early.few, length-append a b) };
 }
 
 -- the same fault of a call that answers something else

@@ -6,7 +6,7 @@ ghost use Rattle.fp_base.specs.Names.{with_names};
 ghost use Rattle.fp_model.specs.Classes.{field_names, raw_names, IsClassOf};
 ghost use Rattle.fp_model.specs.Descriptor.{is_field_descriptor, kind_names, IsKindOf, LacksRoom};
 ghost use Rattle.fp_model.specs.Thin.{passes, class_name_at, is_class_index, is_sound_field, is_thin_pool, text_at, IsThin};
-ghost use Rattle.fp_class.specs.Interning.{Interned, IsClassName, IsNamedField, IsParentName};
+ghost use Rattle.fp_class.specs.Interning.{HasNoRoom, Interned, IsClassName, IsNamedField, IsParentName};
 
 use crate::entries;
 use fp_base::{NameFault, Names};
@@ -196,7 +196,7 @@ pub fn to_class(alloc: Global, raw: &Raw, names: &mut Names) -> Result<Option<Cl
     ensures names { OnOk result (names.new ≡ with_names names.old (raw_names raw.now)) }
     ensures grown { (more : List (List ℕ)) × (names.new ≡ names.old ++ more) }
     // It is full where it has no room for one of these texts.
-    ensures full { IsErrOf result NameFault.Full → LacksRoom names.new (raw_names raw.now) }
+    ensures full { IsErrOf result NameFault.Full → HasNoRoom names.old names.new (raw_names raw.now) }
 {
     match class(alloc, raw, names) {
         Ok(class) => Ok(Some(class)),

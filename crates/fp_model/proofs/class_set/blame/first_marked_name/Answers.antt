@@ -16,7 +16,7 @@ unwrap-name-requires c =
 pub loop-id-preserved-then-marks-id : goal.loop-id-preserved-then-marks-id
 loop-id-preserved-then-marks-id c =
     let class = get_or c.args.classes.now (c.loop-id.id - 1) c.index-classes-id.result in
-    let name = c.in_ok-escaped.ensures ∙ ap escaped_name (text_found c.args.names.now class.name c.text.result c.unwrap-name.result c.text.ensures.text c.unwrap-name.ensures) in
+    let name = c.in_ok-escaped_name_text.ensures ∙ ap escaped_name (text_found c.args.names.now class.name c.text.result c.unwrap-name.result c.text.ensures.text c.unwrap-name.ensures) in
     ap (λ text. Some text) (c.earlier_of.ensures ∙ ap₂ earlier name c.loop-id.invariant)
     ∙ least_marked c.args.names.now c.args.classes.now c.args.marks.now (c.loop-id.id - 1) c.loop-id.id c.index-classes-id.result (omega arith) (omega arith) c.requires.marks c.if-marks-id.true
 

@@ -1,0 +1,44 @@
+-- What a refusal says of the status and of the text of a run.
+use Rattle.std.proofs.Common.{◌≡◌, ◌≢◌, ◌⊎◌, ℕ, Bool, List, [], ◌∷◌, ◌++◌, length, Option, Some, None, IsTrue, refl, sym, ap, ◌∙◌, inl, inr, length-append, arith}
+use Rattle.std.specs.Prelude.{string_bytes}
+use Rattle.fp_base.specs.Files.{File}
+use Rattle.fp_base.specs.Calls.{Call, Gained}
+use Rattle.fp_top.specs.declared.status.Status.{Status}
+use Rattle.fp_top.specs.declared.status.Status.TheVariants as status
+use Rattle.fp_top.specs.declared.refusal.Refusal.{Refusal}
+use Rattle.fp_top.specs.declared.refusal.Refusal.TheVariants as refusal
+use Rattle.fp_top.specs.Outcome.{Outcome}
+use Rattle.fp_top.specs.Outcome as outcome
+use Rattle.fp_top.specs.Refusal.{Says, BlamesIn, status_of, text_of}
+use Rattle.fp_top.specs.Top.{IsText}
+
+-- no call is gained where none is added
+gained_none : (before now : List Call) (call : Call) → now ≡ before → Gained before now call → ⊥
+gained_none before now call same (more, parts, (place, within, is)) =
+    omega (arith, length-append {A = Call} before more, ap length (sym same ∙ parts))
+
+-- without a new failed call no refusal is a read fault
+pub no_read_fault : (dir : Option (List ℕ)) (listed : List (List ℕ)) (before now : List Call) (r : Refusal) → BlamesIn dir listed before now r → now ≡ before → status_of r ≢ status.ReadFault
+no_read_fault dir listed before now refusal.Usage blames same is = cc
+no_read_fault None listed before now (refusal.Read path) blames same is = blames
+no_read_fault (Some dir) listed before now (refusal.Read path) (inl listing) same is = gained_none before now _ same listing.1
+no_read_fault (Some dir) listed before now (refusal.Read path) (inr reading) same is = gained_none before now _ same reading.2
+no_read_fault dir listed before now (refusal.Unbuilt path at) blames same is = cc
+no_read_fault dir listed before now (refusal.Cycle name) blames same is = cc
+no_read_fault dir listed before now refusal.Memory blames same is = cc
+
+-- where the told files call for a report, and no call failed, memory ran out
+pub only_memory : (o : Outcome) (dir : Option (List ℕ)) (listed : List (List ℕ)) (before now : List Call) (r : Refusal) → Says o r → BlamesIn dir listed before now r → outcome.status_of o ≡ status.Done → now ≡ before → (status_of r ≡ status.Done) ⊎ (status_of r ≡ status.Memory)
+only_memory o dir listed before now refusal.Usage says blames done same = let wrong : status.Usage ≡ status.Done = sym (ap outcome.status_of says) ∙ done in absurd cc
+only_memory o dir listed before now (refusal.Read path) says blames done same = absurd (no_read_fault dir listed before now (refusal.Read path) blames same refl)
+only_memory o dir listed before now (refusal.Unbuilt path at) says blames done same = let wrong : status.Refused ≡ status.Done = sym (ap outcome.status_of says) ∙ done in absurd cc
+only_memory o dir listed before now (refusal.Cycle name) says blames done same = let wrong : status.Refused ≡ status.Done = sym (ap outcome.status_of says) ∙ done in absurd cc
+only_memory o dir listed before now refusal.Memory says blames done same = inr refl
+
+-- the text of a refusal goes with its status
+pub IsText-refusal : (tells : Bool) (words : List (List ℕ)) (files : List File) (r : Refusal) → (IsTrue tells → Says (outcome.outcome words files) r) → IsText tells words files (status_of r) (text_of r)
+IsText-refusal tells words files refusal.Usage says = refl
+IsText-refusal tells words files (refusal.Read path) says = (string_bytes path, refl)
+IsText-refusal tells words files (refusal.Unbuilt path at) says = λ t. sym (ap outcome.text_of (says t))
+IsText-refusal tells words files (refusal.Cycle name) says = λ t. sym (ap outcome.text_of (says t))
+IsText-refusal tells words files refusal.Memory says = refl

@@ -1,0 +1,67 @@
+ghost use Rattle.std.specs.Prelude.{◌≡◌, ◌≢◌, ◌⊎◌, ◌↔◌, ℕ, List, Some, None, IsTrue, IsNone};
+ghost use Rattle.std.specs.Io.KnownBytes.{append_known};
+ghost use Rattle.fp_base.specs.Files.{texts};
+ghost use Rattle.fp_base.specs.Calls.{Grows};
+ghost use Rattle.fp_base.specs.Counters.{Rose};
+ghost use Rattle.fp_base.specs.Faults.{AppendsPart};
+ghost use Rattle.fp_top.specs.Words as spec;
+ghost use Rattle.fp_top.specs.Outcome.{verdict, output};
+ghost use Rattle.fp_top.specs.Top.{Fits, IsText, IsReadFault};
+
+use crate::decide::decide;
+use crate::refusal::status_of;
+use crate::status::Status;
+use crate::write::{put_lines, tell};
+use fp_base::{ClassDir, Sink, SinkFault};
+use std::alloc::Global;
+
+/// Analyses the class file below a directory as the words ask, and writes the report to `out`. A refusal writes one text to
+/// `err` and leaves `out` as it was. The call always returns.
+pub fn analyse_one<D: ClassDir, S: Sink>(
+    alloc: Global,
+    words: &[String],
+    dir: &mut D,
+    out: &mut S,
+    err: &mut S,
+) -> Status
+    // The report, whole.
+    ensures done { result ≡ Status.Done → IsTrue (D.tells dir.old) → S.told out.new ≡ append_known (S.told out.old) (output (texts words.now) (D.files dir.old)) }
+
+    // The status is what the told files call for, but for faults and want of memory.
+    ensures verdict { IsTrue (D.tells dir.old) → Fits result (verdict (texts words.now) (D.files dir.old)) }
+    ensures usage { result ≡ Status.Usage → IsNone (spec.directory_of (texts words.now)) }
+    ensures usage_exactly { IsNone (spec.directory_of (texts words.now)) → result ≡ Status.Usage }
+
+    // Each fault has its cause.
+    ensures write_fault { result ≡ Status.WriteFault → Rose (S.faults out.old) (S.faults out.new) }
+    ensures read_fault { result ≡ Status.ReadFault → IsReadFault (texts words.now) (D.listed dir.new) (D.failed dir.old) (D.failed dir.new) (S.told err.old) (S.told err.new) }
+    ensures no_fault { D.failed dir.new ≡ D.failed dir.old → result ≢ Status.ReadFault }
+    ensures complete { IsTrue (D.tells dir.old) → verdict (texts words.now) (D.files dir.old) ≡ Status.Done → D.failed dir.new ≡ D.failed dir.old
+        → (Rose (S.faults out.old) (S.faults out.new) → ⊥) → (result ≡ Status.Done) ⊎ (result ≡ Status.Memory) }
+
+    // What the sinks and the directory are left with.
+    ensures untouched { result ≢ Status.Done → result ≢ Status.WriteFault → result ≢ Status.Memory → out.new ≡ out.old }
+    ensures part { IsTrue (D.tells dir.old) → AppendsPart (S.told out.old) (S.told out.new) (output (texts words.now) (D.files dir.old)) }
+    ensures silent { result ≡ Status.Done → err.new ≡ err.old }
+    ensures message { (text : List ℕ) × IsText (D.tells dir.old) (texts words.now) (D.files dir.old) result text × AppendsPart (S.told err.old) (S.told err.new) text }
+    ensures files { D.files dir.new ≡ D.files dir.old }
+    ensures grows { Grows (D.failed dir.old) (D.failed dir.new) }
+{
+    match decide(alloc, words, dir) {
+        Ok(lines) => match put_lines(out, &lines) {
+            Ok(()) => Status::Done,
+            Err(SinkFault::Failed) => {
+                let _ = err.put(b"write fault\n");
+                Status::WriteFault
+            }
+            Err(SinkFault::Memory) => {
+                let _ = err.put(b"out of memory\n");
+                Status::Memory
+            }
+        },
+        Err(refusal) => {
+            tell(alloc, err, &refusal);
+            status_of(&refusal)
+        }
+    }
+}

@@ -1,0 +1,15 @@
+//! The analyser as one call, from words and a directory to a report.
+#![tactic(auto)]
+
+mod analyse;
+mod decide;
+mod judge;
+mod load;
+mod refusal;
+mod report;
+mod status;
+mod words;
+mod write;
+
+pub use analyse::analyse_one;
+pub use status::Status;
