@@ -1,4 +1,5 @@
 pub mod CallLemmas
 pub mod FileLemmas
+pub mod ReadLemmas
 mod ResultLemmas
 pub mod SinkLemmas

@@ -10,6 +10,5 @@ pub use host::host_sink::HostSink;
 pub use memory::files::has_distinct_paths;
 pub use memory::mem_dir::MemDir;
 pub use memory::mem_sink::{MemSink, has_distinct_calls};
-pub use outside::call::DirCall;
 pub use outside::dir::{ClassDir, DirFault};
 pub use outside::sink::{Sink, SinkFault};
