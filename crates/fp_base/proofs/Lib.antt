@@ -1,7 +1,8 @@
+mod NameSetLemmas
+mod ResultLemmas
 pub mod CallLemmas
 pub mod EscapeLemmas
 pub mod FileLemmas
 pub mod NameLemmas
-mod NameSetLemmas
-mod ResultLemmas
+pub mod ReadLemmas
 pub mod SinkLemmas

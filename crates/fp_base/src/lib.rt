@@ -14,6 +14,5 @@ pub use memory::files::has_distinct_paths;
 pub use memory::mem_dir::MemDir;
 pub use memory::mem_sink::{MemSink, has_distinct_calls};
 pub use names::{MAX_NAMES, NameFault, Names};
-pub use outside::call::DirCall;
 pub use outside::dir::{ClassDir, DirFault};
 pub use outside::sink::{Sink, SinkFault};

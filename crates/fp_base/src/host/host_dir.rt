@@ -6,15 +6,12 @@ ghost use Rattle.fp_base.specs.Calls.Call.{Listing, Reading};
 
 use crate::host::walk::{HostFault, class_files};
 use crate::outside::call::{DirCall, note_listing, note_reading};
-use crate::outside::dir::{ClassDir, DirFault};
+use crate::outside::dir::{ClassDir, DirFault, READ_LIMIT};
 use std::alloc::{AllocError, Global};
 use std::fs;
 use std::io::Read;
 use std::marker::Model;
 use std::rt::Files;
-
-/// How many bytes of a file a read gives at most.
-const READ_LIMIT: u64 = 4_194_305;
 
 /// The files of the system. It tells none of them, and a file that isn't there is a fault.
 #[derive(Drop)]
@@ -53,7 +50,7 @@ impl<'a, R: Files> HostDir<'a, R> {
 fn first_bytes<R: Files>(alloc: Global, rt: &R, path: &str) -> Result<Vec<u8>, HostFault> {
     let mut bytes = Vec::new(alloc);
     fs::open(rt, path)?
-        .take(READ_LIMIT)
+        .take(READ_LIMIT as u64)
         .read_to_end(&mut bytes)?;
     Ok(bytes)
 }

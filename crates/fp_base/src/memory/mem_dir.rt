@@ -9,12 +9,9 @@ ghost use Rattle.fp_base.specs.MemDir as spec;
 
 use crate::memory::files::{class_paths, contents_at};
 use crate::outside::call::{DirCall, note_listing, note_reading};
-use crate::outside::dir::{ClassDir, DirFault};
+use crate::outside::dir::{ClassDir, DirFault, READ_LIMIT};
 use std::alloc::Global;
 use std::marker::Model;
-
-/// How many bytes of a file a read gives at most.
-const READ_LIMIT: usize = 4_194_305;
 
 /// A directory in memory, which tells its files, and fails at the calls that its maker names.
 #[derive(Debug, Drop)]

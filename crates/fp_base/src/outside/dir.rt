@@ -7,6 +7,9 @@ ghost use Rattle.fp_base.specs.Calls.Call.{Listing, Reading};
 
 use std::alloc::Global;
 
+/// How many bytes of a file a read gives at most: one more than a class file may have.
+pub const READ_LIMIT: usize = 4_194_305;
+
 /// Why a call on a [`ClassDir`] has no answer.
 #[derive(Debug, Clone, Copy, PartialEq, Eq)]
 pub enum DirFault {
