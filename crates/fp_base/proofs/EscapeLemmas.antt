@@ -128,6 +128,7 @@ escaped_name-IsUtf8 name bytes = IsUtf8-from_ascii (escaped_name name) ascii
   where
     are_bytes : AreBytes name
     are_bytes k d within = rw (get_or_default name k d 0 within) (bytes k)
+
     ascii : IsAscii (escaped_name name)
     ascii i = ⊎_elim
         (λ within. let byte = escaped_name-bytes name are_bytes i 0 within in omega (arith, byte.in_text.below_delete))
