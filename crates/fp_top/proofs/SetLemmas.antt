@@ -103,9 +103,10 @@ few_lists raw form =
     let f5 = and_rest (is_u2 raw.this) _ f4 in
     let f6 = and_rest (is_u2 raw.parent) _ f5 in
     let f7 = and_rest (is_u2 (length raw.interfaces)) _ f6 in
-    let f8 = and_rest (list_all is_u2 raw.interfaces) _ f7 in
-    (ltb-true (length raw.interfaces) 65536 (and_first (is_u2 (length raw.interfaces)) _ f6),
-    ltb-true (length raw.fields) 65536 (and_first (is_u2 (length raw.fields)) _ f8))
+    let f8 = and_rest (list_all is_u2 raw.interfaces) _ f7 in (
+      ltb-true (length raw.interfaces) 65536 (and_first (is_u2 (length raw.interfaces)) _ f6),
+      ltb-true (length raw.fields) 65536 (and_first (is_u2 (length raw.fields)) _ f8),
+    )
 
 few_in_option : (o : Option (List ℕ)) → length (option_to_list o) ≤ 1
 few_in_option None = omega arith

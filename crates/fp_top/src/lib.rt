@@ -8,6 +8,8 @@ mod load;
 mod refusal;
 mod report;
 mod status;
+#[cfg(test)]
+mod tests;
 mod words;
 mod write;
 

@@ -9,6 +9,10 @@ use crate::refusal::Refusal;
 use fp_base::{Sink, SinkFault};
 use std::alloc::{AllocError, Global};
 
+/// What words that are not of the grammar are answered by.
+const USAGE: &str =
+    "usage: fpcf --analyses LIST --show LIST --workers N [--assume FILE] [--all] [--cycles] DIR [ROOT]...\nusage: fpcf generate --seed N --classes N --workers N\n";
+
 /// Puts lines, one after another.
 pub fn put_lines<S: Sink>(sink: &mut S, lines: &[String]) -> Result<(), SinkFault>
     ensures whole { OnOk result (S.told sink.new ≡ append_known (S.told sink.old) (flat_map (λ line. line) (texts lines.now))) }
@@ -39,12 +43,8 @@ fn text_of(alloc: Global, refusal: &Refusal) -> Result<String, AllocError>
     match refusal {
         Refusal::Usage => String::from_str(alloc, USAGE),
         Refusal::Read(path) => format!(in alloc; "read fault: {path}\n"),
-        Refusal::Unbuilt { path, at } => {
-            format!(in alloc; "refused: {path}: unbuilt at {at}\n")
-        }
+        Refusal::Unbuilt { path, at } => { format!(in alloc; "refused: {path}: unbuilt at {at}\n") }
         Refusal::Cycle(name) => format!(in alloc; "refused: cycle {name}\n"),
         Refusal::Memory => String::from_str(alloc, "out of memory\n"),
     }
 }
-
-const USAGE: &str = "usage: fpcf --analyses LIST --show LIST --workers N [--assume FILE] [--all] [--cycles] DIR [ROOT]...\nusage: fpcf generate --seed N --classes N --workers N\n";

@@ -16,7 +16,8 @@ returns-clause-complete g c = λ tells done same _.
     (only_memory (outcome (texts c.args.words.now) (g.D.ClassDir.files c.args.dir.now)) (directory_of (texts c.args.words.now)) (g.D.ClassDir.listed c.decide.new.dir) (g.D.ClassDir.failed c.args.dir.now) (g.D.ClassDir.failed c.decide.new.dir) c.in-Err.refusal (c.in-Err.ensures.refusal tells) c.in-Err.ensures.blames done same)
 
 pub returns-clause-message : goal.returns-clause-message
-returns-clause-message g c =
-    (text_of c.in-Err.refusal,
-    rw c.status_of.ensures (IsText-refusal (g.D.ClassDir.tells c.args.dir.now) (texts c.args.words.now) (g.D.ClassDir.files c.args.dir.now) c.in-Err.refusal c.in-Err.ensures.refusal),
-    c.tell.ensures)
+returns-clause-message g c = (
+  text_of c.in-Err.refusal,
+  rw c.status_of.ensures (IsText-refusal (g.D.ClassDir.tells c.args.dir.now) (texts c.args.words.now) (g.D.ClassDir.files c.args.dir.now) c.in-Err.refusal c.in-Err.ensures.refusal),
+  c.tell.ensures,
+)

@@ -1,0 +1,253 @@
+use crate::{Status, analyse_one};
+use fp_base::{MemDir, MemSink, has_distinct_calls, has_distinct_paths};
+use std::alloc::{AllocError, Global};
+use std::process::Abort;
+use std::test::Fail;
+
+/// A class A with one final field x of type int.
+const A_FINAL: [u8; 69] = [
+    0xCA, 0xFE, 0xBA, 0xBE, 0x00, 0x00, 0x00, 0x34, 0x00, 0x07, 0x01, 0x00, 0x01, 0x41, 0x07, 0x00,
+    0x01, 0x01, 0x00, 0x10, 0x6A, 0x61, 0x76, 0x61, 0x2F, 0x6C, 0x61, 0x6E, 0x67, 0x2F, 0x4F, 0x62,
+    0x6A, 0x65, 0x63, 0x74, 0x07, 0x00, 0x03, 0x01, 0x00, 0x01, 0x78, 0x01, 0x00, 0x01, 0x49, 0x00,
+    0x21, 0x00, 0x02, 0x00, 0x04, 0x00, 0x00, 0x00, 0x01, 0x00, 0x10, 0x00, 0x05, 0x00, 0x06, 0x00,
+    0x00, 0x00, 0x00, 0x00, 0x00,
+];
+
+/// A class A with a static method m that returns.
+const WITH_METHOD: [u8; 97] = [
+    0xCA, 0xFE, 0xBA, 0xBE, 0x00, 0x00, 0x00, 0x32, 0x00, 0x08, 0x01, 0x00, 0x01, 0x41, 0x07, 0x00,
+    0x01, 0x01, 0x00, 0x10, 0x6A, 0x61, 0x76, 0x61, 0x2F, 0x6C, 0x61, 0x6E, 0x67, 0x2F, 0x4F, 0x62,
+    0x6A, 0x65, 0x63, 0x74, 0x07, 0x00, 0x03, 0x01, 0x00, 0x01, 0x6D, 0x01, 0x00, 0x03, 0x28, 0x29,
+    0x56, 0x01, 0x00, 0x04, 0x43, 0x6F, 0x64, 0x65, 0x00, 0x21, 0x00, 0x02, 0x00, 0x04, 0x00, 0x00,
+    0x00, 0x00, 0x00, 0x01, 0x00, 0x09, 0x00, 0x05, 0x00, 0x06, 0x00, 0x01, 0x00, 0x07, 0x00, 0x00,
+    0x00, 0x0D, 0x00, 0x02, 0x00, 0x00, 0x00, 0x00, 0x00, 0x01, 0xB1, 0x00, 0x00, 0x00, 0x00, 0x00,
+    0x00,
+];
+
+const WORDS: [&str; 7] = [
+    "--analyses",
+    "declared",
+    "--show",
+    "declared",
+    "--workers",
+    "1",
+    "d",
+];
+
+const USAGE: &str =
+    "usage: fpcf --analyses LIST --show LIST --workers N [--assume FILE] [--all] [--cycles] DIR [ROOT]...\nusage: fpcf generate --seed N --classes N --workers N\n";
+
+/// How a run ended, and what it put.
+#[derive(Debug, Drop)]
+struct Ending {
+    status: Status,
+    out: Vec<u8>,
+    err: Vec<u8>,
+}
+
+fn texts(alloc: Global, words: &[&str]) -> Result<Vec<String>, AllocError> {
+    let mut texts = Vec::new(alloc);
+    for word in words {
+        texts.push(String::from_str(alloc, word)?)?;
+    }
+    Ok(texts)
+}
+
+fn file(alloc: Global, path: &str, bytes: &[u8]) -> Result<(String, Vec<u8>), AllocError> {
+    Ok((
+        String::from_str(alloc, path)?,
+        Vec::from_slice(alloc, bytes)?,
+    ))
+}
+
+/// A copy with one byte changed.
+fn changed(alloc: Global, bytes: &[u8], at: usize, byte: u8) -> Result<Vec<u8>, AllocError> {
+    let mut copy = Vec::from_slice(alloc, bytes)?;
+    if at < copy.len() {
+        copy[at] = byte;
+    }
+    Ok(copy)
+}
+
+fn run(
+    rt: &impl Abort,
+    alloc: Global,
+    words: &[&str],
+    files: Vec<(String, Vec<u8>)>,
+    failing_calls: Vec<u32>,
+    failing_puts: Vec<(u32, u32)>,
+) -> Result<Ending, AllocError> {
+    assert!(rt; has_distinct_paths(&files));
+    assert!(rt; has_distinct_calls(&failing_puts));
+    let words = texts(alloc, words)?;
+    let mut dir = MemDir::new(alloc, files, failing_calls);
+    let mut out = MemSink::new(alloc, failing_puts);
+    let mut err = MemSink::new(alloc, Vec::new(alloc));
+    let status = analyse_one(alloc, &words, &mut dir, &mut out, &mut err);
+    Ok(Ending {
+        status,
+        out: Vec::from_slice(alloc, out.bytes())?,
+        err: Vec::from_slice(alloc, err.bytes())?,
+    })
+}
+
+#[test]
+fn reports_a_thin_class_and_refuses_what_is_none(rt: HostRuntime) -> Result<(), Fail> {
+    let alloc = rt.alloc();
+    let not_final = changed(alloc, &A_FINAL, 58, 0x00)?;
+    let other_parent = changed(alloc, &A_FINAL, 35, b'u')?;
+    let own_parent = changed(alloc, &A_FINAL, 52, 0x02)?;
+    let unbuilt = "refused: d/A.class: unbuilt at 0\n";
+    let cases: [(&[u8], Status, &str, &str); 6] = [
+        (&A_FINAL, Status::Done, "declared A final\ncells 1\n", ""),
+        (
+            not_final.as_slice(),
+            Status::Done,
+            "declared A open\ncells 1\n",
+            "",
+        ),
+        (
+            other_parent.as_slice(),
+            Status::Done,
+            "declared A open\ncells 1\n",
+            "",
+        ),
+        (&WITH_METHOD, Status::Refused, "", unbuilt),
+        (&A_FINAL[..4], Status::Refused, "", unbuilt),
+        (
+            own_parent.as_slice(),
+            Status::Refused,
+            "",
+            "refused: cycle A\n",
+        ),
+    ];
+    for (bytes, status, out, err) in cases {
+        let mut files = Vec::new(alloc);
+        files.push(file(alloc, "d/A.class", bytes)?)?;
+        files.push(file(alloc, "d/A.txt", bytes)?)?;
+        let ending = run(&rt, alloc, &WORDS, files, Vec::new(alloc), Vec::new(alloc))?;
+        assert_eq!(rt; ending.status, status);
+        assert_eq!(rt; ending.out.as_slice(), out.as_bytes());
+        assert_eq!(rt; ending.err.as_slice(), err.as_bytes());
+    }
+    Ok(())
+}
+
+#[test]
+fn refuses_another_number_of_files_than_one_and_a_long_file(rt: HostRuntime) -> Result<(), Fail> {
+    let alloc = rt.alloc();
+    let long = vec![in alloc; 0u8; 4_194_305]?;
+    let cases: [(&[&str], &[u8], &str); 3] = [
+        (&[], &A_FINAL, "refused: d: unbuilt at 0\n"),
+        (
+            &["d/A.class", "d/e/B.class"],
+            &A_FINAL,
+            "refused: d: unbuilt at 2\n",
+        ),
+        (
+            &["d/A.class"],
+            long.as_slice(),
+            "refused: d/A.class: unbuilt at 4194304\n",
+        ),
+    ];
+    for (paths, bytes, err) in cases {
+        let mut files = Vec::new(alloc);
+        for path in paths {
+            files.push(file(alloc, path, bytes)?)?;
+        }
+        let ending = run(&rt, alloc, &WORDS, files, Vec::new(alloc), Vec::new(alloc))?;
+        assert_eq!(rt; ending.status, Status::Refused);
+        assert_eq!(rt; ending.err.as_slice(), err.as_bytes());
+        assert!(rt; ending.out.is_empty());
+    }
+    Ok(())
+}
+
+#[test]
+fn tells_which_call_of_the_outside_failed(rt: HostRuntime) -> Result<(), Fail> {
+    let alloc = rt.alloc();
+    let cases: [(u32, &[(u32, u32)], Status, &str, &str); 4] = [
+        (0, &[], Status::ReadFault, "", "read fault: d\n"),
+        (1, &[], Status::ReadFault, "", "read fault: d/A.class\n"),
+        (
+            9,
+            &[(1, 3)],
+            Status::WriteFault,
+            "declared A final\ncel",
+            "write fault\n",
+        ),
+        (9, &[(0, 0)], Status::WriteFault, "", "write fault\n"),
+    ];
+    for (failing_call, failing_puts, status, out, err) in cases {
+        let mut files = Vec::new(alloc);
+        files.push(file(alloc, "d/A.class", &A_FINAL)?)?;
+        let calls = Vec::from_slice(alloc, &[failing_call])?;
+        let puts = Vec::from_slice(alloc, failing_puts)?;
+        let ending = run(&rt, alloc, &WORDS, files, calls, puts)?;
+        assert_eq!(rt; ending.status, status);
+        assert_eq!(rt; ending.out.as_slice(), out.as_bytes());
+        assert_eq!(rt; ending.err.as_slice(), err.as_bytes());
+    }
+    Ok(())
+}
+
+#[test]
+fn answers_words_of_no_command_by_the_usage(rt: HostRuntime) -> Result<(), Fail> {
+    let alloc = rt.alloc();
+    let cases: [&[&str]; 6] = [
+        &[],
+        &[
+            "--analyses",
+            "declared",
+            "--show",
+            "declared",
+            "--workers",
+            "1",
+        ],
+        &[
+            "--show",
+            "declared",
+            "--analyses",
+            "declared",
+            "--workers",
+            "1",
+            "d",
+        ],
+        &[
+            "--analyses",
+            "declared",
+            "--show",
+            "declared",
+            "--workers",
+            "2",
+            "d",
+        ],
+        &[
+            "--analyses",
+            "declared",
+            "--show",
+            "declared",
+            "--workers",
+            "1",
+            "-d",
+        ],
+        &[
+            "--analyses",
+            "declared",
+            "--show",
+            "declared",
+            "--workers",
+            "1",
+            "",
+        ],
+    ];
+    for words in cases {
+        let mut files = Vec::new(alloc);
+        files.push(file(alloc, "d/A.class", &A_FINAL)?)?;
+        let ending = run(&rt, alloc, words, files, Vec::new(alloc), Vec::new(alloc))?;
+        assert_eq!(rt; ending.status, Status::Usage);
+        assert_eq!(rt; ending.err.as_slice(), USAGE.as_bytes());
+        assert!(rt; ending.out.is_empty());
+    }
+    Ok(())
+}
