@@ -1,10 +1,10 @@
-use Rattle.std.proofs.Common.{[], ◌∷◌}
+use Rattle.std.proofs.Common.{[], ◌∷◌, Err}
 use Rattle.std.proofs.lemmas.Result.{err_from_is_err_and}
 use Rattle.std.specs.Option.{unwrap_or}
 use Rattle.fp_model.specs.Descriptor.{kind_names}
 use Rattle.fp_model.specs.Thin.{text_at}
 use Rattle.fp_class.proofs.NamedParts.{field_named}
-use Rattle.fp_class.proofs.Tables.{after_one, kept_by}
+use Rattle.fp_class.proofs.Tables.{after_one, interned_then, interned_as, kept_by}
 use Rattle.fp_class.proofs.naming.field.Goals as goal
 
 pub returns-in_err-descr-clause-names : goal.returns-in_err-descr-clause-names
@@ -13,6 +13,17 @@ returns-in_err-descr-clause-names c =
     let descr = unwrap_or (text_at c.args.entries.now c.args.member.now.descr) [] in
     rw (p.1, p.2)
     (after_one c.in_err-descr.field-0.0 c.args.names.now c.text.new.names c.text-2.new.names (unwrap_or (text_at c.args.entries.now c.args.member.now.name) [] ∷ []) (descr ∷ []) (kind_names descr) c.in_ok-name.ensures.names.names c.in_err-descr.ensures.names)
+
+pub returns-in_err-kind-clause-names : goal.returns-in_err-kind-clause-names
+returns-in_err-kind-clause-names c =
+    let p = err_from_is_err_and c.from_residual-in_err-kind.result c.from_residual-in_err-kind.ensures.1 in
+    let name = unwrap_or (text_at c.args.entries.now c.args.member.now.name) [] in
+    let descr = unwrap_or (text_at c.args.entries.now c.args.member.now.descr) [] in
+    let f = c.in_err-kind.field-0.0 in
+    rw (p.1, p.2)
+    (interned_then (Err f) c.args.names.now c.text.new.names c.kind_at.new.names (name ∷ []) (descr ∷ kind_names descr) c.in_ok-name.ensures.names.names
+    (interned_then (Err f) c.text.new.names c.text-2.new.names c.kind_at.new.names (descr ∷ []) (kind_names descr) c.in_ok-descr.ensures.names.names
+    (interned_as f c.text-2.new.names c.kind_at.new.names (kind_names descr) c.in_err-kind.ensures.names)))
 
 pub returns-clause-field : goal.returns-clause-field
 returns-clause-field c =
