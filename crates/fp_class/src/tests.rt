@@ -1,6 +1,7 @@
+use crate::entries::{class_name, text};
 use crate::{read_class, to_class};
 use fp_base::Names;
-use fp_model::{Entry, Field, FileFault, Kind};
+use fp_model::{Field, FileFault, Kind};
 use std::test::Fail;
 
 /// A class `A` with the final field `x` of descriptor `I`.
@@ -29,26 +30,21 @@ fn a_file_is_cut_into_its_parts(rt: HostRuntime) -> Result<(), Fail> {
     let raw = read_class(rt.alloc(), FILE)?;
     assert_eq!(rt; (raw.minor, raw.major, raw.flags), (0, 52, 0x21));
     assert_eq!(rt; (raw.this, raw.parent), (2, 4));
-    let [
-        Entry::Unused,
-        Entry::Utf8(a),
-        Entry::Class(1),
-        Entry::Utf8(object),
-        Entry::Class(3),
-        Entry::Utf8(x),
-        Entry::Utf8(int),
-    ] = raw.pool.entries.as_slice()
-    else {
-        panic!(&rt; "{:?}", raw.pool);
-    };
-    assert_eq!(rt; a.as_slice(), b"A".as_slice());
-    assert_eq!(rt; object.as_slice(), b"java/lang/Object".as_slice());
-    assert_eq!(rt; x.as_slice(), b"x".as_slice());
-    assert_eq!(rt; int.as_slice(), b"I".as_slice());
-    let [field] = raw.fields.as_slice() else {
-        panic!(&rt; "{:?}", raw.fields);
-    };
+    let pool = raw.pool.entries.as_slice();
+    for (index, name) in [
+        (1, b"A".as_slice()),
+        (3, b"java/lang/Object"),
+        (5, b"x"),
+        (6, b"I"),
+    ] {
+        assert_eq!(rt; text(pool, index), Some(name), "{index}");
+    }
+    for (index, name) in [(2, b"A".as_slice()), (4, b"java/lang/Object")] {
+        assert_eq!(rt; class_name(pool, index), Some(name), "{index}");
+    }
+    let field = raw.fields.get(0).ok_or("no field")?;
     assert_eq!(rt; (field.flags, field.name, field.descr), (0x10, 5, 6));
+    assert_eq!(rt; (pool.len(), raw.fields.len()), (7, 1));
     assert_eq!(rt;
         (
             raw.interfaces.len(),
