@@ -1,0 +1,10 @@
+pub mod Sums
+pub mod Least
+pub mod LeastDemand
+pub mod Told
+pub mod DemoLemmas
+pub mod MakerLemmas
+pub mod ReadingLemmas
+pub mod Joins
+pub mod Flags
+pub mod SumLemmas
