@@ -1,5 +1,5 @@
 -- The places of cells are numbered one to one.
-use Rattle.std.proofs.Common.{◌≡◌, ℕ, zero, suc, ◌+◌, ◌<◌, ◌≤◌, Bool, true, false, cond, ◌&&◌, ◌||◌, List, [], ◌∷◌, ◌++◌, Option, None, Some, length, replicate, take, is_some, slice_get, refl, sym, ap, ◌∙◌, arith, rules, zero-add}
+use Rattle.std.proofs.Common.{◌≡◌, ℕ, zero, suc, ◌+◌, ◌<◌, ◌≤◌, Bool, true, false, cond, ◌&&◌, List, [], ◌∷◌, ◌++◌, Option, None, Some, length, replicate, take, is_some, slice_get, refl, sym, ap, ◌∙◌, arith, rules, zero-add}
 use denote.Enum.Bare.{same_true}
 use Rattle.std.proofs.lemmas.Option.{slice_get_past}
 use Rattle.std.specs.Option.{option_map}

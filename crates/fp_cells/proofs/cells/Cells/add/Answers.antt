@@ -1,6 +1,6 @@
-use Rattle.std.proofs.Common.{◌≡◌, ◌+◌, ◌<◌, ◌^◌, ◌++◌, ◌∷◌, [], false, refl, ap, sym, ◌∙◌}
-use Rattle.fp_cells.specs.Cells.{AreDistinct, Cell, has_cell, places_of, total_places}
-use Rattle.fp_cells.specs.Spots.{IsCellTable, cells_of}
+use Rattle.std.proofs.Common.{◌≡◌, ◌+◌, ◌<◌, ◌^◌, ◌++◌, ◌∷◌, [], false, ap, sym, ◌∙◌}
+use Rattle.fp_cells.specs.Cells.{has_cell, places_of, total_places}
+use Rattle.fp_cells.specs.Spots.{cells_of}
 use Rattle.fp_cells.proofs.CellLemmas.{Added, added-whole}
 use Rattle.fp_cells.proofs.cells.Cells.add.Goals as goal
 
