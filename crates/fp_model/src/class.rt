@@ -14,7 +14,7 @@ pub type FieldId = u32;
 pub type MethodId = u32;
 
 /// A place in the code of a method.
-#[derive(Clone, Copy, Debug, PartialEq, Eq)]
+#[derive(Clone, Copy, Debug, PartialEq, Eq, Hash)]
 pub struct SiteId {
     pub method: MethodId,
     /// The offset of the instruction in the code, in bytes.

@@ -1,0 +1,5 @@
+pub mod Cells
+pub mod Words
+pub mod Texts
+pub mod Lists
+pub mod Spots

@@ -1,0 +1,170 @@
+//! The cells of a run of analyses, and the places that hold their values.
+ghost use Rattle.std.specs.Prelude.{◌≡◌, ◌+◌, ◌<◌, ◌^◌, ◌++◌, ◌∷◌, [], List, false, is_some, IfOk, OnOk, OnErr};
+ghost use Rattle.fp_cells.specs.Cells.{AreDistinct, Cell, IsNumbering, cell_at, first_place, has_cell, places_of, total_places};
+
+use crate::kind::{Entity, KindId};
+use indexmap::IndexMap;
+use std::alloc::{AllocError, Global};
+use std::marker::Model;
+
+/// Where the places of a cell begin, and how many bits its value has.
+#[derive(Clone, Copy, Debug)]
+struct Spot {
+    first: u32,
+    bits: u32,
+}
+
+/// The cells of a run, in the order in which they were added: each has a kind, an entity and a number of bits.
+///
+/// The value of a cell stands in its places, which hold 64 bits each: one place for each 64 bits, and at least one. The places are
+/// numbered from 0, cell after cell.
+#[derive(Debug, Drop)]
+pub struct Cells {
+    // A map that keeps the order of adding. Its keys are numbers that the analyses give, and no names that an input could choose
+    // to share a hash.
+    spots: IndexMap<(KindId, Entity), Spot>,
+    // The cell that each place belongs to.
+    owners: Vec<(KindId, Entity)>,
+}
+
+impl Model for Cells {
+    ghost use Rattle.std.specs.Prelude.{List};
+    ghost use Rattle.fp_cells.specs.Cells.{Cell};
+
+    ghost Value = { List Cell };
+
+    ghost use Rattle.fp_cells.specs.Spots.{cells_of, IsCellTable};
+
+    ghost view = { λ c. cells_of c.spots.entries };
+
+    ghost invariant = { λ c. IsCellTable c.spots.entries c.owners.items };
+}
+
+impl Cells {
+    /// No cells, which take no memory.
+    pub fn new(alloc: Global) -> Cells
+        ensures { result ≡ [] }
+    {
+        Cells {
+            spots: IndexMap::new(alloc),
+            owners: Vec::new(alloc),
+        }
+    }
+
+    /// How many places there are. Their numbers are those below it.
+    pub fn places(&self) -> u32
+        ensures places { result ≡ total_places self.now }
+        ensures distinct { AreDistinct self.now }
+    {
+        self.owners.len() as u32
+    }
+
+    /// Adds a cell whose value has so many bits, and gives its first place. Where there is no memory, the cells stay as they were.
+    pub fn add(&mut self, kind: KindId, entity: Entity, bits: u32) -> Result<u32, AllocError>
+        requires absent { has_cell self.old kind entity ≡ false }
+        requires few { total_places self.old + places_of bits < 2 ^ 32 }
+        ensures first { IfOk result (λ place. place ≡ total_places self.old) }
+        ensures added { OnOk result (self.new
+            ≡ self.old ++ record { kind = kind; entity = entity; bits = bits } ∷ []) }
+        ensures err { OnErr result (self.new ≡ self.old) }
+        ensures distinct { AreDistinct self.new }
+    {
+        let first = self.places();
+        let end = first + count_places(bits);
+        self.owners.resize(end as usize, (kind, entity))?;
+        let spot = Spot { first, bits };
+        match self.spots.insert((kind, entity), spot) {
+            Ok(_) => Ok(first),
+            Err(_) => {
+                self.owners.truncate(first as usize);
+                Err(AllocError)
+            }
+        }
+    }
+
+    /// The first place of the cell of that kind and entity, if there is one. Takes no memory.
+    pub fn find(&self, kind: KindId, entity: Entity) -> Option<u32>
+        ensures place { result ≡ first_place self.now kind entity }
+        ensures known { is_some result ≡ has_cell self.now kind entity }
+        ensures distinct { AreDistinct self.now }
+    {
+        let spot = self.spots.get(&(kind, entity))?;
+        Some(spot.first)
+    }
+
+    /// The kind and the entity of the cell that the place belongs to, if there is such a place. Takes no memory.
+    pub fn cell_of(&self, place: u32) -> Option<(KindId, Entity)>
+        ensures cell { result ≡ cell_at self.now place }
+        ensures distinct { AreDistinct self.now }
+    {
+        self.owners.get(place as usize).copied()
+    }
+}
+
+/// The places of cells are numbered one to one: a cell's first place leads back to it, each place below the total belongs to one
+/// cell, and places of different cells don't meet.
+pub fn law_places()
+    ensures { (cells : List Cell) → AreDistinct cells → IsNumbering cells }
+{}
+
+// How many places a value of so many bits takes.
+fn count_places(bits: u32) -> u32
+    ensures { result ≡ places_of bits }
+{
+    bits.div_ceil(64).max(1)
+}
+
+#[cfg(test)]
+mod tests {
+    use super::*;
+    use fp_model::SiteId;
+    use std::test::Fail;
+
+    /// Adds a cell of few bits that is not there yet.
+    fn add_new(
+        cells: &mut Cells,
+        kind: KindId,
+        entity: Entity,
+        bits: u32,
+    ) -> Result<Option<u32>, AllocError> {
+        if cells.find(kind, entity).is_some() || bits > 1000 || cells.places() > 1000 {
+            return Ok(None);
+        }
+        let place = cells.add(kind, entity, bits)?;
+        Ok(Some(place))
+    }
+
+    #[test]
+    fn a_place_leads_back_to_its_cell(rt: HostRuntime) -> Result<(), Fail> {
+        let site = Entity::Site(SiteId { method: 3, pc: 7 });
+        let mut cells = Cells::new(rt.alloc());
+        assert_eq!(rt; cells.cell_of(0), None);
+        assert_eq!(rt;
+            add_new(&mut cells, KindId::Reach, Entity::Method(3), 1)?,
+            Some(0)
+        );
+        assert_eq!(rt;
+            add_new(&mut cells, KindId::Leak, Entity::Method(3), 64)?,
+            Some(1)
+        );
+        assert_eq!(rt;
+            add_new(&mut cells, KindId::Purity, Entity::Method(3), 65)?,
+            Some(2)
+        );
+        assert_eq!(rt; add_new(&mut cells, KindId::Callees, site, 200)?, Some(4));
+        assert_eq!(rt;
+            add_new(&mut cells, KindId::Leak, Entity::Method(4), 0)?,
+            Some(8)
+        );
+        assert_eq!(rt; cells.places(), 9);
+        assert_eq!(rt; cells.find(KindId::Purity, Entity::Method(3)), Some(2));
+        assert_eq!(rt; cells.find(KindId::Purity, Entity::Class(3)), None);
+        assert_eq!(rt; cells.cell_of(0), Some((KindId::Reach, Entity::Method(3))));
+        assert_eq!(rt; cells.cell_of(3), Some((KindId::Purity, Entity::Method(3))));
+        assert_eq!(rt; cells.cell_of(4), Some((KindId::Callees, site)));
+        assert_eq!(rt; cells.cell_of(7), Some((KindId::Callees, site)));
+        assert_eq!(rt; cells.cell_of(8), Some((KindId::Leak, Entity::Method(4))));
+        assert_eq!(rt; cells.cell_of(9), None);
+        Ok(())
+    }
+}
