@@ -46,11 +46,11 @@ interned_one (Err e) old new text named same full = record {
   names = tt;
   grown = ([], same ∙ sym (append-nil old));
   full = λ is.
-    let lacks = full is in
-    record {
-      lacks = subst (λ t. LacksRoom t (text ∷ [])) (sym same) (lacks.1, ap (λ b. not b || false) lacks.0);
-      few = omega (arith, ap length same);
-    };
+      let lacks = full is in
+      record {
+        lacks = subst (λ t. LacksRoom t (text ∷ [])) (sym same) (lacks.1, ap (λ b. not b || false) lacks.0);
+        few = omega (arith, ap length same);
+      };
 }
 
 -- none
@@ -72,11 +72,11 @@ interned_then (Err f) old mid new a b is then =
       names = tt;
       grown = (first.0 ++ then.grown.0, then.grown.1 ∙ ap (λ t. t ++ then.grown.0) (is ∙ first.1) ∙ append_assoc old first.0 then.grown.0);
       full = λ e.
-        let late = then.full e in
-        record {
-          lacks = lacks_rest new a b late.lacks;
-          few = omega (arith, late.few, ap length is, length-with_names-le old a, length-append a b);
-        };
+          let late = then.full e in
+          record {
+            lacks = lacks_rest new a b late.lacks;
+            few = omega (arith, late.few, ap length is, length-with_names-le old a, length-append a b);
+          };
     }
 
 -- a call that failed, and others that don't come to pass
@@ -85,9 +85,9 @@ interned_stop f old new a b stopped = record {
   names = tt;
   grown = stopped.grown;
   full = λ e.
-    let is : f ≡ fault.Full = cc in
-    let early = stopped.full (ap Err is) in
-    record { lacks = lacks_first new a b early.lacks; few = omega (arith, early.few, length-append a b) };
+      let is : f ≡ fault.Full = cc in
+      let early = stopped.full (ap Err is) in
+      record { lacks = lacks_first new a b early.lacks; few = omega (arith, early.few, length-append a b) };
 }
 
 -- the same fault of a call that answers something else

@@ -23,9 +23,9 @@ one_counted p [] d some = absurd (omega arith)
 one_counted p (x ∷ xs) d some = ⊎_elim
     (λ yes. (0, omega arith, yes))
     (λ no.
-        let rest = sum_by-cons (λ y. cond (p y) 1 0) x xs ∙ ap (λ n. n + count_by p xs) (cond-false (p x) 1 0 no) in
-        let found = one_counted p xs d (omega arith) in
-        (suc found.0, omega arith, found.2))
+    let rest = sum_by-cons (λ y. cond (p y) 1 0) x xs ∙ ap (λ n. n + count_by p xs) (cond-false (p x) 1 0 no) in
+    let found = one_counted p xs d (omega arith) in
+    (suc found.0, omega arith, found.2))
     (cases_Bool (p x))
 
 -- where more than one are counted, two elements pass
@@ -33,11 +33,11 @@ pub two_counted : {X : Type 0} (p : X → Bool) (xs : List X) (d : X) → 1 < co
 two_counted p [] d some = absurd (omega arith)
 two_counted p (x ∷ xs) d some = ⊎_elim
     (λ yes.
-        let rest = sum_by-cons (λ y. cond (p y) 1 0) x xs ∙ ap (λ n. n + count_by p xs) (cond-true (p x) 1 0 yes) in
-        let found = one_counted p xs d (omega arith) in
-        (0, suc found.0, omega arith, omega arith, yes, found.2))
+    let rest = sum_by-cons (λ y. cond (p y) 1 0) x xs ∙ ap (λ n. n + count_by p xs) (cond-true (p x) 1 0 yes) in
+    let found = one_counted p xs d (omega arith) in
+    (0, suc found.0, omega arith, omega arith, yes, found.2))
     (λ no.
-        let rest = sum_by-cons (λ y. cond (p y) 1 0) x xs ∙ ap (λ n. n + count_by p xs) (cond-false (p x) 1 0 no) in
-        let found = two_counted p xs d (omega arith) in
-        (suc found.0, suc found.1, omega arith, omega arith, found.4, found.5))
+    let rest = sum_by-cons (λ y. cond (p y) 1 0) x xs ∙ ap (λ n. n + count_by p xs) (cond-false (p x) 1 0 no) in
+    let found = two_counted p xs d (omega arith) in
+    (suc found.0, suc found.1, omega arith, omega arith, found.4, found.5))
     (cases_Bool (p x))

@@ -24,7 +24,7 @@ pub found_by_index : (names : List (List ℕ)) (classes : List Class) (index : L
 found_by_index names classes index name over is = ⊎_elim
     (λ within. ap (λ xs. option_flatten (slice_get xs name)) is ∙ ap option_flatten (table_at (class_named classes) (length names) name within))
     (λ past.
-        ap (λ xs. option_flatten (slice_get xs name)) is
-        ∙ ap option_flatten (slice_get_past (map (class_named classes) (range_with_len 0 (length names))) name (rw length-map-range_with_len past))
-        ∙ sym (nobody names classes name over past (class_named classes name) refl))
+    ap (λ xs. option_flatten (slice_get xs name)) is
+    ∙ ap option_flatten (slice_get_past (map (class_named classes) (range_with_len 0 (length names))) name (rw length-map-range_with_len past))
+    ∙ sym (nobody names classes name over past (class_named classes name) refl))
     (cases_lt name (length names))

@@ -45,13 +45,13 @@ least_text-Some (t ∷ ts) text e = with_rest (λ m. least_text-Some ts m) (leas
   where
     with_rest : ((m : List ℕ) → least_text ts ≡ Some m → IsFirstOf ts m) → (rest : Option (List ℕ)) → least_text ts ≡ rest → earlier t rest ≡ text → IsFirstOf (t ∷ ts) text
     with_rest below None none is =
-      subst (λ l. IsFirstOf (t ∷ ts) l) is (subst (λ rest. IsFirstOf (t ∷ rest) t) (sym (least_text-None ts none)) (record {
-        among = (0, omega arith, refl);
-        first = All-cons (λ other. is_before other t ≡ false) t [] (not_before_itself t) (All-nil (λ other. is_before other t ≡ false));
-      }))
+        subst (λ l. IsFirstOf (t ∷ ts) l) is (subst (λ rest. IsFirstOf (t ∷ rest) t) (sym (least_text-None ts none)) (record {
+          among = (0, omega arith, refl);
+          first = All-cons (λ other. is_before other t ≡ false) t [] (not_before_itself t) (All-nil (λ other. is_before other t ≡ false));
+        }))
     with_rest below (Some m) least is =
-      let found = below m least in
-      ⊎_elim
+        let found = below m least in
+        ⊎_elim
         (λ earlier_one. subst (λ l. IsFirstOf (t ∷ ts) l) (sym (cond-true (is_before m t) m t earlier_one) ∙ is) (record {
           among = (suc found.among.0, omega arith, found.among.2);
           first = All-cons (λ other. is_before other m ≡ false) t ts (before_one_way m t earlier_one) found.first;

@@ -25,19 +25,19 @@ class_named_more classes i c k within is = position_more (λ (d : Class). d.name
 pub index_more : (classes : List Class) (index : List (Option ℕ)) (i : ℕ) (c : Class) (old new : Option ℕ) → i < length classes → c ≡ get_or classes i c → c.name < length index → old ≡ get_or index c.name old → new ≡ option_or old (Some i) → ((k : ℕ) → k < length index → get_or index k None ≡ class_named (take i classes) k) → (k : ℕ) → k < length index → get_or (set index c.name new) k None ≡ class_named (take (i + 1) classes) k
 index_more classes index i c old new within is named was made indexed k small = ⊎_elim
     (λ here.
-        let had : old ≡ class_named (take i classes) k = was ∙ get_or_default index c.name old None named ∙ ap (λ n. get_or index n None) (sym here) ∙ indexed k small in
-        ap (λ n. get_or (set index c.name new) n None) here
-        ∙ get_or-set_same index c.name new None named
-        ∙ made
-        ∙ ap (λ o. option_or o (Some i)) had
-        ∙ ap (λ b. option_or (class_named (take i classes) k) (cond b (Some i) None)) (sym (eq-eqb c.name k (sym here)))
-        ∙ sym (class_named_more classes i c k within is))
+    let had : old ≡ class_named (take i classes) k = was ∙ get_or_default index c.name old None named ∙ ap (λ n. get_or index n None) (sym here) ∙ indexed k small in
+    ap (λ n. get_or (set index c.name new) n None) here
+    ∙ get_or-set_same index c.name new None named
+    ∙ made
+    ∙ ap (λ o. option_or o (Some i)) had
+    ∙ ap (λ b. option_or (class_named (take i classes) k) (cond b (Some i) None)) (sym (eq-eqb c.name k (sym here)))
+    ∙ sym (class_named_more classes i c k within is))
     (λ other.
-        get_or-set_other index c.name k new None other
-        ∙ indexed k small
-        ∙ sym (option_or-None (class_named (take i classes) k))
-        ∙ ap (λ b. option_or (class_named (take i classes) k) (cond b (Some i) None)) (sym (ne_eqb c.name k (λ e. other (sym e))))
-        ∙ sym (class_named_more classes i c k within is))
+    get_or-set_other index c.name k new None other
+    ∙ indexed k small
+    ∙ sym (option_or-None (class_named (take i classes) k))
+    ∙ ap (λ b. option_or (class_named (take i classes) k) (cond b (Some i) None)) (sym (ne_eqb c.name k (λ e. other (sym e))))
+    ∙ sym (class_named_more classes i c k within is))
     (cases_eq k c.name)
 
 -- the superclass of a class, by the index
@@ -55,5 +55,5 @@ superclass_by_index classes index i c within is named table =
 pub superclasses_more : (classes : List Class) (index supers : List (Option ℕ)) (i : ℕ) (c : Class) (found : Option ℕ) → i < length classes → c ≡ get_or classes i c → All (λ d. IfSome d.parent (λ name. name < length index)) classes → index ≡ map (class_named classes) (range_with_len 0 (length index)) → supers ≡ map (superclass_of classes) (range_with_len 0 i) → found ≡ option_and_then (λ name. slice_index_or index name None) c.parent → supers ++ found ∷ [] ≡ map (superclass_of classes) (range_with_len 0 (i + 1))
 superclasses_more classes index supers i c found within is named table so_far one =
     ap₂ (λ front last. front ++ last ∷ []) so_far
-        (one ∙ superclass_by_index classes index i c within is (one_of_all (λ (d : Class). IfSome d.parent (λ name. name < length index)) classes i c named within is) table)
+    (one ∙ superclass_by_index classes index i c within is (one_of_all (λ (d : Class). IfSome d.parent (λ name. name < length index)) classes i c named within is) table)
     ∙ table_more (superclass_of classes) i

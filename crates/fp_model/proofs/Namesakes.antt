@@ -17,16 +17,16 @@ count_named_more classes i c k within is =
 pub counts_more : (classes : List Class) (counts : List ℕ) (i : ℕ) (c : Class) (old : ℕ) → i < length classes → c ≡ get_or classes i c → c.name < length counts → old ≡ get_or counts c.name old → ((k : ℕ) → k < length counts → get_or counts k 0 ≡ count_by (λ d. d.name == k) (take i classes)) → (k : ℕ) → k < length counts → get_or (set counts c.name (old + 1)) k 0 ≡ count_by (λ d. d.name == k) (take (i + 1) classes)
 counts_more classes counts i c old within is named was counted k small = ⊎_elim
     (λ here.
-        ap (λ n. get_or (set counts c.name (old + 1)) n 0) here
-        ∙ get_or-set_same counts c.name (old + 1) 0 named
-        ∙ ap (λ n. n + 1) (was ∙ get_or_default counts c.name old 0 named ∙ ap (λ n. get_or counts n 0) (sym here) ∙ counted k small)
-        ∙ ap (λ n. count_by (λ d. d.name == k) (take i classes) + n) (sym (cond-true (c.name == k) 1 0 (eq-eqb c.name k (sym here))))
-        ∙ sym (count_named_more classes i c k within is))
+    ap (λ n. get_or (set counts c.name (old + 1)) n 0) here
+    ∙ get_or-set_same counts c.name (old + 1) 0 named
+    ∙ ap (λ n. n + 1) (was ∙ get_or_default counts c.name old 0 named ∙ ap (λ n. get_or counts n 0) (sym here) ∙ counted k small)
+    ∙ ap (λ n. count_by (λ d. d.name == k) (take i classes) + n) (sym (cond-true (c.name == k) 1 0 (eq-eqb c.name k (sym here))))
+    ∙ sym (count_named_more classes i c k within is))
     (λ other.
-        get_or-set_other counts c.name k (old + 1) 0 other
-        ∙ counted k small
-        ∙ none_more (count_by (λ d. d.name == k) (take i classes)) (cond (c.name == k) 1 0) (cond-false (c.name == k) 1 0 (ne_eqb c.name k (λ e. other (sym e))))
-        ∙ sym (count_named_more classes i c k within is))
+    get_or-set_other counts c.name k (old + 1) 0 other
+    ∙ counted k small
+    ∙ none_more (count_by (λ d. d.name == k) (take i classes)) (cond (c.name == k) 1 0) (cond-false (c.name == k) 1 0 (ne_eqb c.name k (λ e. other (sym e))))
+    ∙ sym (count_named_more classes i c k within is))
     (cases_eq k c.name)
   where
     none_more : (a b : ℕ) → b ≡ 0 → a ≡ a + b
@@ -42,6 +42,6 @@ counts_fit classes counts i c old within named was counted =
 pub namesakes_more : (classes : List Class) (counts : List ℕ) (i m : ℕ) (c : Class) (count : ℕ) → i < length classes → c ≡ get_or classes i c → counts ≡ map (λ name. count_by (λ d. d.name == name) classes) (range_with_len 0 m) → c.name < m → count ≡ get_or counts c.name count → map (has_namesake classes) (take i classes) ++ nat_lt 1 count ∷ [] ≡ map (has_namesake classes) (take (i + 1) classes)
 namesakes_more classes counts i m c count within is table named was =
     ap (λ n. map (has_namesake classes) (take i classes) ++ nat_lt 1 n ∷ [])
-        (was ∙ ap (λ xs. get_or xs c.name count) table ∙ get_or-map-range_with_len (λ name. count_by (λ (d : Class). d.name == name) classes) 0 m c.name c.name count named (omega arith))
+    (was ∙ ap (λ xs. get_or xs c.name count) table ∙ get_or-map-range_with_len (λ name. count_by (λ (d : Class). d.name == name) classes) 0 m c.name c.name count named (omega arith))
     ∙ sym (map_push (has_namesake classes) (take i classes) c)
     ∙ ap (map (has_namesake classes)) (ap (λ (d : Class). take i classes ++ d ∷ []) is ∙ sym (take_more classes i c within))

@@ -8,9 +8,9 @@ first_hit f v zero = inr (λ i lt. absurd (omega arith))
 first_hit f v (suc m) = ⊎_elim
     (λ hit. inl (hit.0, omega arith, hit.2))
     (λ none. ⊎_elim
-        (λ here. inl (m, omega arith, here))
-        (λ other. inr (λ i lt. ⊎_elim (λ is. λ e. other (sym (ap f is) ∙ e)) (λ isnt. none i (omega arith)) (cases_eq i m)))
-        (cases_eq (f m) v))
+    (λ here. inl (m, omega arith, here))
+    (λ other. inr (λ i lt. ⊎_elim (λ is. λ e. other (sym (ap f is) ∙ e)) (λ isnt. none i (omega arith)) (cases_eq i m)))
+    (cases_eq (f m) v))
     (first_hit f v m)
 
 -- the values, with another one in place of the greatest
@@ -28,13 +28,13 @@ moved-same : (n v x y : ℕ) → x ≢ v → y ≢ v → moved n v x ≡ moved n
 unfolding moved
 moved-same n v x y nx ny e = ⊎_elim
     (λ isx. ⊎_elim
-        (λ isy. isx ∙ sym isy)
-        (λ isnty. absurd (ny (sym (rw (cond-true (eqb x n) v x (eq-eqb x n isx), cond-false (eqb y n) v y (ne_eqb y n isnty)) at e))))
-        (cases_eq y n))
+    (λ isy. isx ∙ sym isy)
+    (λ isnty. absurd (ny (sym (rw (cond-true (eqb x n) v x (eq-eqb x n isx), cond-false (eqb y n) v y (ne_eqb y n isnty)) at e))))
+    (cases_eq y n))
     (λ isntx. ⊎_elim
-        (λ isy. absurd (nx (rw (cond-false (eqb x n) v x (ne_eqb x n isntx), cond-true (eqb y n) v y (eq-eqb y n isy)) at e)))
-        (λ isnty. rw (cond-false (eqb x n) v x (ne_eqb x n isntx), cond-false (eqb y n) v y (ne_eqb y n isnty)) at e)
-        (cases_eq y n))
+    (λ isy. absurd (nx (rw (cond-false (eqb x n) v x (ne_eqb x n isntx), cond-true (eqb y n) v y (eq-eqb y n isy)) at e)))
+    (λ isnty. rw (cond-false (eqb x n) v x (ne_eqb x n isntx), cond-false (eqb y n) v y (ne_eqb y n isnty)) at e)
+    (cases_eq y n))
     (cases_eq x n)
 
 -- two of more than n numbers below n are equal
@@ -43,6 +43,6 @@ two_share zero f below = absurd (omega (arith, below 0 (omega arith)))
 two_share (suc n) f below = ⊎_elim
     (λ hit. (hit.0, suc n, omega arith, omega arith, hit.2))
     (λ none.
-        let share = two_share n (λ i. moved n (f (suc n)) (f i)) (λ i lt. moved-below n (f (suc n)) (f i) (below i (omega arith)) (below (suc n) (omega arith)) (none i lt)) in
-        (share.0, share.1, share.2, omega arith, moved-same n (f (suc n)) (f share.0) (f share.1) (none share.0 (omega arith)) (none share.1 share.3) share.4))
+    let share = two_share n (λ i. moved n (f (suc n)) (f i)) (λ i lt. moved-below n (f (suc n)) (f i) (below i (omega arith)) (below (suc n) (omega arith)) (none i lt)) in
+    (share.0, share.1, share.2, omega arith, moved-same n (f (suc n)) (f share.0) (f share.1) (none share.0 (omega arith)) (none share.1 share.3) share.4))
     (first_hit f (f (suc n)) (suc n))

@@ -16,15 +16,15 @@ use Rattle.fp_model.proofs.Steps.{Leads, IsWithin, after_steps-add, ends_within,
 pub map_range_same : {X : Type 0} (f g : ℕ → X) (n : ℕ) (d : X) → ((k : ℕ) → k < n → f k ≡ g k) → map f (range_with_len 0 n) ≡ map g (range_with_len 0 n)
 map_range_same f g n d same =
     fill_by_all g (map f (range_with_len 0 n)) n d (length-map-range_with_len f 0 n)
-        (λ k within. get_or-map-range_with_len f 0 n k k d within (omega arith) ∙ same k within)
+    (λ k within. get_or-map-range_with_len f 0 n k k d within (omega arith) ∙ same k within)
 
 -- superclasses are classes of the set
 pub superclass_of-within : (classes : List Class) → IsWithin (superclass_of classes) (length classes)
 superclass_of-within classes = record {
   from = λ x y e. option_and_then_some (λ (c : Class). option_and_then (class_named classes) c.parent) (slice_get classes x) y e (λ c found there. slice_get_within classes x c found);
   to = λ x y e. option_and_then_some (λ (c : Class). option_and_then (class_named classes) c.parent) (slice_get classes x) y e
-    (λ c found there. option_and_then_some (class_named classes) c.parent y there
-    (λ name has named. (position-Some (λ (d : Class). d.name == name) classes y c named).0));
+      (λ c found there. option_and_then_some (class_named classes) c.parent y there
+      (λ name has named. (position-Some (λ (d : Class). d.name == name) classes y c named).0));
 }
 
 module _ (next : ℕ → Option ℕ) (n : ℕ) (within : IsWithin next n) where
@@ -46,19 +46,22 @@ module _ (next : ℕ → Option ℕ) (n : ℕ) (within : IsWithin next n) where
   pub reached_twice : (k : ℕ) → map (λ to. option_and_then (λ id. slice_index_or (map (after_steps next k) (range_with_len 0 n)) id None) to) (map (after_steps next k) (range_with_len 0 n)) ≡ map (after_steps next (k * 2)) (range_with_len 0 n)
   reached_twice k =
       fill_by_all (after_steps next (k * 2)) (map further reached) n None (length-map reached further ∙ length-map-range_with_len (after_steps next k) 0 n)
-          (λ i here.
-              get_or-map further reached i None None (rw length-map-range_with_len here)
-              ∙ ap further (reached_at k i None here)
-              ∙ from_there i here (after_steps next k i) refl
-              ∙ sym (after_steps-add next k k i)
-              ∙ ap (λ steps. after_steps next steps i) twice)
+      (λ i here.
+      get_or-map further reached i None None (rw length-map-range_with_len here)
+      ∙ ap further (reached_at k i None here)
+      ∙ from_there i here (after_steps next k i) refl
+      ∙ sym (after_steps-add next k k i)
+      ∙ ap (λ steps. after_steps next steps i) twice)
     where
       twice : k + k ≡ k * 2
       twice = omega arith
+
       reached : List (Option ℕ)
       reached = map (after_steps next k) (range_with_len 0 n)
+
       further : Option ℕ → Option ℕ
       further to = option_and_then (λ id. slice_index_or reached id None) to
+
       from_there : (i : ℕ) → i < n → (to : Option ℕ) → after_steps next k i ≡ to → further to ≡ option_and_then (after_steps next k) to
       from_there i here None e = refl
       from_there i here (Some id) e = reached_at k id None (ends_within within k i id here (record { leads = e }))
@@ -68,10 +71,11 @@ module _ (next : ℕ → Option ℕ) (n : ℕ) (within : IsWithin next n) where
   marks_are k long some =
       ap (λ m. map (λ id. list_any (is_number id) reached) (range_with_len 0 m)) (length-map-range_with_len (after_steps next k) 0 n)
       ∙ map_range_same (λ id. list_any (is_number id) reached) (comes_back next n) n false
-          (λ id here. same_from_decides {P = comes_back next n id ≡ true} (list_any (is_number id) reached) (comes_back next n id) (only id, back id here) (λ e. e, λ e. e))
+      (λ id here. same_from_decides {P = comes_back next n id ≡ true} (list_any (is_number id) reached) (comes_back next n id) (only id, back id here) (λ e. e, λ e. e))
     where
       reached : List (Option ℕ)
       reached = map (after_steps next k) (range_with_len 0 n)
+
       only : (id : ℕ) → list_any (is_number id) reached ≡ true → comes_back next n id ≡ true
       only id e =
           let found = Any-from_list_any (is_number id) reached e in
@@ -79,13 +83,14 @@ module _ (next : ℕ → Option ℕ) (n : ℕ) (within : IsWithin next n) where
           let leads : Leads next k found.0 id = record { leads = sym (reached_at k found.0 found.1 from) ∙ found.3 ∙ is_number-true id found.1 found.4 } in
           let round = comes_round_from within k found.0 id long some leads in
           comes_back-from next n id round.0 round.1 round.2 round.3
+
       back : (id : ℕ) → id < n → comes_back next n id ≡ true → list_any (is_number id) reached ≡ true
       back id here e =
           let round = comes_back-true next n id e in
           let far = reached_by (round.0 - 1) k (Leads-steps round.0 (suc (round.0 - 1)) (omega arith) round.3) in
           let from = starts_within within (k - 1) far.0 id (Leads-steps k (suc (k - 1)) (omega arith) far.1) in
           list_any_at (is_number id) reached far.0 None (rw length-map-range_with_len from)
-              (ap (is_number id) (reached_at k far.0 None from ∙ far.1.leads) ∙ is_number-same id)
+          (ap (is_number id) (reached_at k far.0 None from ∙ far.1.leads) ∙ is_number-same id)
 
 -- the same for superclasses, with names for the lists
 pub reached-one : (classes : List Class) (supers : List (Option ℕ)) → supers ≡ map (superclass_of classes) (range_with_len 0 (length classes)) → supers ≡ map (ancestor_after classes 1) (range_with_len 0 (length classes))

@@ -16,14 +16,14 @@ module _ {Z : Type 0} (names : List (List ℕ)) (classes : List Class) where
   unfolding refusal_of
   refused_duplicate items xs found name marked slice least was =
       ap (λ o. option_or (option_map Duplicate o) (option_map SuperCycle (least_text (marked_names names classes (cycle_marks classes)))))
-          (name_found names classes (namesake_marks classes) items xs found (Some name) marked slice least was)
+      (name_found names classes (namesake_marks classes) items xs found (Some name) marked slice least was)
 
   pub refused_by_cycle : (items xs more ys : List Bool) (found other is : Option (String Z)) → items ≡ namesake_marks classes → xs ≡ items → option_map string_bytes found ≡ least_text (marked_names names classes xs) → found ≡ None → more ≡ cycle_marks classes → ys ≡ more → option_map string_bytes other ≡ least_text (marked_names names classes ys) → other ≡ is → refusal_of (record { classes = classes; names = names }) ≡ option_map (λ name. SuperCycle (string_bytes name)) is
   unfolding refusal_of
   refused_by_cycle items xs more ys found other is marked slice least was cycles second first_on then =
       ap₂ (λ o p. option_or (option_map Duplicate o) (option_map SuperCycle p))
-          (name_found names classes (namesake_marks classes) items xs found None marked slice least was)
-          (name_found names classes (cycle_marks classes) more ys other is cycles second first_on then)
+      (name_found names classes (namesake_marks classes) items xs found None marked slice least was)
+      (name_found names classes (cycle_marks classes) more ys other is cycles second first_on then)
       ∙ by_name is
     where
       by_name : (o : Option (String Z)) → option_map SuperCycle (option_map string_bytes o) ≡ option_map (λ name. SuperCycle (string_bytes name)) o

@@ -50,13 +50,13 @@ distinct_where_unmarked : (classes : List Class) → ((k : ℕ) → get_or (name
 distinct_where_unmarked classes none i j c d ci dj same = ⊎_elim
     (λ equal. equal)
     (λ differ. ⊎_elim
-        (λ less. absurd (marked i j c less (slice_get_within classes j d dj) ci
-            (eq-eqb _ _ (ap (λ (e : Class). e.name) (get_or_from_slice_get classes i c c ci)))
-            (eq-eqb _ _ (ap (λ (e : Class). e.name) (get_or_from_slice_get classes j d c dj) ∙ sym same))))
-        (λ more. absurd (marked j i d more (slice_get_within classes i c ci) dj
-            (eq-eqb _ _ (ap (λ (e : Class). e.name) (get_or_from_slice_get classes j d d dj)))
-            (eq-eqb _ _ (ap (λ (e : Class). e.name) (get_or_from_slice_get classes i c d ci) ∙ same))))
-        differ)
+    (λ less. absurd (marked i j c less (slice_get_within classes j d dj) ci
+    (eq-eqb _ _ (ap (λ (e : Class). e.name) (get_or_from_slice_get classes i c c ci)))
+    (eq-eqb _ _ (ap (λ (e : Class). e.name) (get_or_from_slice_get classes j d c dj) ∙ sym same))))
+    (λ more. absurd (marked j i d more (slice_get_within classes i c ci) dj
+    (eq-eqb _ _ (ap (λ (e : Class). e.name) (get_or_from_slice_get classes j d d dj)))
+    (eq-eqb _ _ (ap (λ (e : Class). e.name) (get_or_from_slice_get classes i c d ci) ∙ same))))
+    differ)
     (cases_order i j)
   where
     marked : (a b : ℕ) (e : Class) → a < b → b < length classes → slice_get classes a ≡ Some e → eqb (get_or classes a e).name e.name ≡ true → eqb (get_or classes b e).name e.name ≡ true → ⊥
@@ -94,15 +94,15 @@ unmarked_where_distinct classes distinct k = ⊎_elim
     shared : (at : Option Class) → slice_get classes k ≡ at → k < length classes → get_or (namesake_marks classes) k false ≡ true → ⊥
     shared None e within marked = known classes k within e
     shared (Some c) e within marked =
-      let two = two_counted (λ (d : Class). d.name == c.name) classes c (ltb-true 1 _ (sym (namesake_at classes k c e) ∙ marked)) in
-      let same = distinct two.0 two.1 (get_or classes two.0 c) (get_or classes two.1 c) (slice_get-get_or classes two.0 c (omega arith)) (slice_get-get_or classes two.1 c (omega arith)) (eqb-true _ _ two.4 ∙ sym (eqb-true _ _ two.5)) in
-      absurd (omega arith)
+        let two = two_counted (λ (d : Class). d.name == c.name) classes c (ltb-true 1 _ (sym (namesake_at classes k c e) ∙ marked)) in
+        let same = distinct two.0 two.1 (get_or classes two.0 c) (get_or classes two.1 c) (slice_get-get_or classes two.0 c (omega arith)) (slice_get-get_or classes two.1 c (omega arith)) (eqb-true _ _ two.4 ∙ sym (eqb-true _ _ two.5)) in
+        absurd (omega arith)
 
 unmarked_where_acyclic : (classes : List Class) → ((steps id : ℕ) → ancestor_after classes (suc steps) id ≢ Some id) → (k : ℕ) → get_or (cycle_marks classes) k false ≡ false
 unmarked_where_acyclic classes acyclic k = ⊎_elim
     (λ within. cycle_at classes k within ∙ false_from_ne_true (is_on_cycle classes k) (λ round.
-        let back = comes_back-true (superclass_of classes) (length classes) k round in
-        acyclic (back.0 - 1) k (Leads-steps back.0 (suc (back.0 - 1)) (omega arith) back.3).leads))
+    let back = comes_back-true (superclass_of classes) (length classes) k round in
+    acyclic (back.0 - 1) k (Leads-steps back.0 (suc (back.0 - 1)) (omega arith) back.3).leads))
     (λ past. get_or_past (cycle_marks classes) k false (rw length-map-range_with_len past))
     (cases_lt k (length classes))
 
@@ -121,8 +121,8 @@ chain_ends classes sound id within = ends (ancestor_after classes (length classe
     ends : (to : Option ℕ) → ancestor_after classes (length classes) id ≡ to → to ≡ None
     ends None e = refl
     ends (Some z) e =
-      let round = comes_round_from (superclass_of-within classes) (length classes) id z (omega arith) (omega arith) (record { leads = e }) in
-      absurd (sound.acyclic (round.0 - 1) z (Leads-steps round.0 (suc (round.0 - 1)) (omega arith) round.3).leads)
+        let round = comes_round_from (superclass_of-within classes) (length classes) id z (omega arith) (omega arith) (record { leads = e }) in
+        absurd (sound.acyclic (round.0 - 1) z (Leads-steps round.0 (suc (round.0 - 1)) (omega arith) round.3).leads)
 
 -- ---- the name that is told
 
@@ -140,7 +140,7 @@ pub duplicate_is_first : (set : SetView) (name : List ℕ) → refusal_of set �
 unfolding refusal_of
 duplicate_is_first set name e =
     least_text-Some (marked_names set.names set.classes (namesake_marks set.classes)) name
-        (first_duplicate (least_text (marked_names set.names set.classes (namesake_marks set.classes))) (least_text (marked_names set.names set.classes (cycle_marks set.classes))) name e)
+    (first_duplicate (least_text (marked_names set.names set.classes (namesake_marks set.classes))) (least_text (marked_names set.names set.classes (cycle_marks set.classes))) name e)
 
 pub cycle_is_first : (set : SetView) (name : List ℕ) → refusal_of set ≡ Some (SuperCycle name) → (marked_names set.names set.classes (namesake_marks set.classes) ≡ []) × IsFirstOf (marked_names set.names set.classes (cycle_marks set.classes)) name
 unfolding refusal_of

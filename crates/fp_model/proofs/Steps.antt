@@ -33,7 +33,7 @@ Leads-add {next} {x} {y} {z} a b first second = record { leads = after_steps-add
 Leads-split : {next : ℕ → Option ℕ} {x z : ℕ} (a b : ℕ) → Leads next (a + b) x z → (y : ℕ) × Leads next b x y × Leads next a y z
 Leads-split {next} {x} {z} a b whole =
     option_and_then_some (after_steps next a) (after_steps next b x) z (sym (after_steps-add next a b x) ∙ whole.leads)
-        (λ y first second. (y, record { leads = first }, record { leads = second }))
+    (λ y first second. (y, record { leads = first }, record { leads = second }))
 
 Leads-same : {next : ℕ → Option ℕ} {x y z : ℕ} (a : ℕ) → Leads next a x y → Leads next a x z → y ≡ z
 Leads-same {next} {x} {y} {z} a first second = same_Some y z (sym first.leads ∙ second.leads)
@@ -95,15 +95,15 @@ comes_round_from {next} {n} within k x z long positive whole =
   where
     round : (i j : ℕ) → i < j → j < suc n → place next x i ≡ place next x j → (p : ℕ) × (0 < p) × (p ≤ n) × Leads next p z z
     round i j less few same =
-      let at_i = passes_place k i (omega arith) whole in
-      let at_j = passes_place k j (omega arith) whole in
-      let from_i = passes_place j i (omega arith) at_j.0 in
-      let P : ℕ → Type 0 = λ y. Leads next (j - i) (place next x i) y in
-      let loop = subst P (sym same) from_i.1 in
-      let round_first = Leads-add (k - i) (j - i) loop at_i.1 in
-      let parts = Leads-split (j - i) (k - i) (Leads-steps (k - i + (j - i)) (j - i + (k - i)) (omega arith) round_first) in
-      let Q : ℕ → Type 0 = λ y. Leads next (j - i) y z in
-      (j - i, omega arith, omega arith, subst Q (Leads-same (k - i) parts.1 at_i.1) parts.2)
+        let at_i = passes_place k i (omega arith) whole in
+        let at_j = passes_place k j (omega arith) whole in
+        let from_i = passes_place j i (omega arith) at_j.0 in
+        let P : ℕ → Type 0 = λ y. Leads next (j - i) (place next x i) y in
+        let loop = subst P (sym same) from_i.1 in
+        let round_first = Leads-add (k - i) (j - i) loop at_i.1 in
+        let parts = Leads-split (j - i) (k - i) (Leads-steps (k - i + (j - i)) (j - i + (k - i)) (omega arith) round_first) in
+        let Q : ℕ → Type 0 = λ y. Leads next (j - i) y z in
+        (j - i, omega arith, omega arith, subst Q (Leads-same (k - i) parts.1 at_i.1) parts.2)
 
 pub is_number-true : (n : ℕ) (o : Option ℕ) → is_number n o ≡ true → o ≡ Some n
 is_number-true n None e = absurd (false≢true e)
@@ -126,9 +126,9 @@ unfolding comes_back
 comes_back-from next zero id p positive within round = absurd (omega arith)
 comes_back-from next (suc m) id p positive within round = ⊎_elim
     (λ here. or_right (comes_back next m id) (is_number id (after_steps next (suc m) id))
-        (let at = Leads-steps p (suc m) here round in rw at.leads (is_number-same id)))
+    (let at = Leads-steps p (suc m) here round in rw at.leads (is_number-same id)))
     (λ before. or_left (comes_back next m id) (is_number id (after_steps next (suc m) id))
-        (comes_back-from next m id p positive (omega arith) round))
+    (comes_back-from next m id p positive (omega arith) round))
     (cases_eq p (suc m))
 
 -- a chain of any length that comes back is found

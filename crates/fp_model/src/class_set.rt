@@ -95,8 +95,7 @@ pub fn law_sound()
     ensures unrefused { (set : SetView) → IsSound set.classes → refusal_of set ≡ None }
     ensures ends { (classes : List Class) → IsSound classes → (id : ℕ) → id < length classes
         → ancestor_after classes (length classes) id ≡ None }
-{
-}
+{}
 
 /// The name in a refusal is the first of the escaped names of the classes with a namesake, or, where none has
 /// one, of the classes on a cycle of superclasses.
@@ -106,5 +105,4 @@ pub fn law_refused()
     ensures cycle { (set : SetView) (name : List ℕ) → refusal_of set ≡ Some (SuperCycle name)
         → (marked_names set.names set.classes (namesake_marks set.classes) ≡ [])
         × IsFirstOf (marked_names set.names set.classes (cycle_marks set.classes)) name }
-{
-}
+{}

@@ -35,5 +35,9 @@ fn earlier_of(text: String, other: Option<String>) -> String
     let Some(other) = other else {
         return text;
     };
-    if other.as_str() < text.as_str() { other } else { text }
+    if other.as_str() < text.as_str() {
+        other
+    } else {
+        text
+    }
 }

@@ -8,7 +8,11 @@ use std::alloc::{AllocError, Global};
 
 /// Marks the classes on a cycle of superclasses: where each class is replaced by its superclass as many
 /// times as there are classes, or more, these are left and no others.
-pub fn mark_cycles(alloc: Global, classes: &[Class], index: &[Option<ClassId>]) -> Result<Vec<bool>, AllocError>
+pub fn mark_cycles(
+    alloc: Global,
+    classes: &[Class],
+    index: &[Option<ClassId>],
+) -> Result<Vec<bool>, AllocError>
     requires few { length classes.now < 2 ^ 32 }
     requires parents { All (λ c. IfSome c.parent (λ name. name < length index.now)) classes.now }
     requires index { index.now ≡ map (class_named classes.now) (range_with_len 0 (length index.now)) }
@@ -35,7 +39,11 @@ fn superclass(class: &Class, index: &[Option<ClassId>]) -> Option<ClassId>
 }
 
 // The superclass of each class.
-fn superclasses(alloc: Global, classes: &[Class], index: &[Option<ClassId>]) -> Result<Vec<Option<ClassId>>, AllocError>
+fn superclasses(
+    alloc: Global,
+    classes: &[Class],
+    index: &[Option<ClassId>],
+) -> Result<Vec<Option<ClassId>>, AllocError>
     requires parents { All (λ c. IfSome c.parent (λ name. name < length index.now)) classes.now }
     requires index { index.now ≡ map (class_named classes.now) (range_with_len 0 (length index.now)) }
     ensures { IfOk result (λ supers. supers.items ≡ map (superclass_of classes.now) (range_with_len 0 (length classes.now))) }

@@ -8,7 +8,11 @@ use fp_base::Names;
 use std::alloc::{AllocError, Global};
 
 /// Marks the classes whose name another class has too.
-pub fn mark_namesakes(alloc: Global, classes: &[Class], names: &Names) -> Result<Vec<bool>, AllocError>
+pub fn mark_namesakes(
+    alloc: Global,
+    classes: &[Class],
+    names: &Names,
+) -> Result<Vec<bool>, AllocError>
     requires over { All (IsClassOver names.now) classes.now }
     requires few { length classes.now < 2 ^ 32 }
     ensures { IfOk result (λ marks. marks.items ≡ namesake_marks classes.now) }

@@ -22,9 +22,9 @@ first_marked_name-requires-2-clause-marks c =
 pub returns-in-Some-2-clause-refused : goal.returns-in-Some-2-clause-refused
 returns-in-Some-2-clause-refused c =
     refused_by_cycle c.args.names.now c.args.classes.now c.in_ok-namesakes.namesakes.items c.as_slice.result.now c.in_ok-cycles.cycles.items c.as_slice-2.result.now c.in_ok-name.field-0 c.in_ok-name-2.field-0 (Some c.in-Some-2.name)
-        c.in_ok-namesakes.ensures c.as_slice.ensures.value c.in_ok-name.ensures c.in_default.is c.in_ok-cycles.ensures c.as_slice-2.ensures.value c.in_ok-name-2.ensures c.in-Some-2.is
+    c.in_ok-namesakes.ensures c.as_slice.ensures.value c.in_ok-name.ensures c.in_default.is c.in_ok-cycles.ensures c.as_slice-2.ensures.value c.in_ok-name-2.ensures c.in-Some-2.is
 
 pub returns-clause-sound : goal.returns-clause-sound
 returns-clause-sound c =
     refused_by_cycle c.args.names.now c.args.classes.now c.in_ok-namesakes.namesakes.items c.as_slice.result.now c.in_ok-cycles.cycles.items c.as_slice-2.result.now c.in_ok-name.field-0 c.in_ok-name-2.field-0 None
-        c.in_ok-namesakes.ensures c.as_slice.ensures.value c.in_ok-name.ensures c.in_default.is c.in_ok-cycles.ensures c.as_slice-2.ensures.value c.in_ok-name-2.ensures c.in_default-2.is
+    c.in_ok-namesakes.ensures c.as_slice.ensures.value c.in_ok-name.ensures c.in_default.is c.in_ok-cycles.ensures c.as_slice-2.ensures.value c.in_ok-name-2.ensures c.in_default-2.is

@@ -11,7 +11,7 @@ owner-requires c =
     let classes = c.args.self.now.classes in
     let facts = known _ c.args.self.now inside.by_name.items inside.firsts.fields.items inside.firsts.methods.items c.self.view_is c.self.invariant in
     let found = has_owner (first_field_of classes) (length classes) c.args.id c.as_slice.result.now (c.as_slice.ensures.value ∙ facts.fields) facts.valid.few.classes refl
-            (rw all_members c.requires) in
+    (rw all_members c.requires) in
     record { some = found.some; few = found.few; above = found.above; below = found.below }
 
 pub returns : goal.returns
@@ -20,5 +20,5 @@ returns c =
     let classes = c.args.self.now.classes in
     let facts = known _ c.args.self.now inside.by_name.items inside.firsts.fields.items inside.firsts.methods.items c.self.view_is c.self.invariant in
     let found = owner_found (first_field_of classes) (length classes) c.owner.result c.args.id c.as_slice.result.now (c.as_slice.ensures.value ∙ facts.fields)
-            c.owner.ensures.class c.owner.ensures.from c.owner.ensures.to in
+    c.owner.ensures.class c.owner.ensures.from c.owner.ensures.to in
     record { class = found.class; from = found.from; to = found.to }

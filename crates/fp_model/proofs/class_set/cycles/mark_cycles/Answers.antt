@@ -26,5 +26,5 @@ mark_reached-requires c = reached-within c.args.classes.now c.loop-steps.steps c
 pub returns : goal.returns
 returns c =
     IfOk-weaker c.mark_reached.result _ (λ marks. marks.items ≡ cycle_marks c.args.classes.now)
-        (λ marks made. reached-marks c.args.classes.now c.loop-steps.steps c.loop-steps.reached.items c.as_slice-2.result.now marks.items c.as_slice-2.ensures.value c.loop-steps.invariant.reached (omega arith) c.loop-steps.invariant.some made)
-        c.mark_reached.ensures
+    (λ marks made. reached-marks c.args.classes.now c.loop-steps.steps c.loop-steps.reached.items c.as_slice-2.result.now marks.items c.as_slice-2.ensures.value c.loop-steps.invariant.reached (omega arith) c.loop-steps.invariant.some made)
+    c.mark_reached.ensures
