@@ -3,7 +3,7 @@ use fp_model::{ClassId, FieldId, MethodId, SiteId};
 /// A kind of property. Its values are sets of bits.
 #[derive(Clone, Copy, Debug, PartialEq, Eq, Hash)]
 pub enum KindId {
-    /// Whether a class may have instances that change after their making, by its own fields.
+    /// Whether the instance fields of a class and of its superclasses are all declared final.
     Declared,
     /// Whether a class has instances.
     Inst,
