@@ -1,5 +1,6 @@
 mod Conditions
 pub mod Files
+pub mod Marks
 mod NamedParts
 mod Numberings
 mod Pieces

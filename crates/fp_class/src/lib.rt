@@ -1,6 +1,7 @@
 //! Reads a class file (JVMS SE 21 chapter 4).
 #![tactic(auto)]
 
+mod descriptors;
 mod entries;
 mod naming;
 mod parts;
