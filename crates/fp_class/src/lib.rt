@@ -3,6 +3,7 @@
 
 mod descriptors;
 mod entries;
+mod memo;
 mod naming;
 mod parts;
 mod pool;
