@@ -1,2 +1,4 @@
+pub mod Descriptors
 pub mod Interning
 pub mod Keys
+pub mod Memos

@@ -1,7 +1,9 @@
 //! Reads a class file (JVMS SE 21 chapter 4).
 #![tactic(auto)]
 
+mod descriptors;
 mod entries;
+mod memo;
 mod naming;
 mod parts;
 mod pool;

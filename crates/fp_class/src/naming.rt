@@ -7,15 +7,17 @@ ghost use Rattle.fp_model.specs.Classes.{field_names, raw_names, IsClassOf};
 ghost use Rattle.fp_model.specs.Descriptor.{is_field_descriptor, kind_names, IsKindOf, LacksRoom};
 ghost use Rattle.fp_model.specs.Thin.{passes, class_name_at, is_class_index, is_sound_field, is_thin_pool, text_at, IsThin};
 ghost use Rattle.fp_class.specs.Interning.{HasNoRoom, Interned, IsClassName, IsNamedField, IsParentName};
+ghost use Rattle.fp_class.specs.Memos.{IsMemo};
 
 use crate::entries;
+use crate::memo::{Memo, empty_memo, keep_kind, keep_number, known_kind, known_number};
 use fp_base::{NameFault, Names};
 use fp_model::{Class, DescrFault, Entry, Field, Kind, Raw, RawMember, read_kind};
-use sqlite_items::Items;
+use sqlite_items::{Items, at};
 use std::alloc::Global;
 
-/// The number of the text at an index.
-fn text(alloc: Global, entries: &[Entry], index: u16, names: &mut Names) -> Result<u32, NameFault>
+/// The number of the text at an index, whatever is known of it.
+fn intern_text(alloc: Global, entries: &[Entry], index: u16, names: &mut Names) -> Result<u32, NameFault>
     requires { is_some (text_at entries.now index) ≡ true }
     ensures number { IfOk result (λ n. slice_get names.new n ≡ text_at entries.now index) }
     ensures names { Interned result names.old names.new (unwrap_or (text_at entries.now index) [] ∷ []) }
@@ -26,20 +28,49 @@ fn text(alloc: Global, entries: &[Entry], index: u16, names: &mut Names) -> Resu
     }
 }
 
+/// The number of the text at an index, which is then known.
+fn text(
+    alloc: Global,
+    entries: &[Entry],
+    index: u16,
+    names: &mut Names,
+    memo: &mut Memo,
+) -> Result<u32, NameFault>
+    requires there { is_some (text_at entries.now index) ≡ true }
+    requires memo { IsMemo names.old entries.now memo.old }
+    ensures number { IfOk result (λ n. slice_get names.new n ≡ text_at entries.now index) }
+    ensures names { Interned result names.old names.new (unwrap_or (text_at entries.now index) [] ∷ []) }
+    ensures memo { OnOk result (IsMemo names.new entries.now memo.new) }
+{
+    if let Some(number) = known_number(memo, index) {
+        return Ok(number);
+    }
+    match intern_text(alloc, entries, index, names) {
+        Ok(number) => {
+            keep_number(memo, index, number);
+            Ok(number)
+        }
+        Err(fault) => Err(fault),
+    }
+}
+
 /// The number of the name of the class at an index.
 fn class_name(
     alloc: Global,
     entries: &[Entry],
     index: u16,
     names: &mut Names,
+    memo: &mut Memo,
 ) -> Result<u32, NameFault>
-    requires { is_some (class_name_at entries.now index) ≡ true }
+    requires there { is_some (class_name_at entries.now index) ≡ true }
+    requires memo { IsMemo names.old entries.now memo.old }
     ensures number { IfOk result (λ n. IsClassName names.new entries.now n index) }
     ensures names { Interned result names.old names.new (option_to_list (class_name_at entries.now index)) }
+    ensures memo { OnOk result (IsMemo names.new entries.now memo.new) }
 {
-    match entries::class_name(entries, index) {
-        Some(name) => names.intern(alloc, name),
-        None => unreachable!(),
+    match at(entries, index as usize) {
+        Some(Entry::Class(name)) => text(alloc, entries, *name, names, memo),
+        _ => unreachable!(),
     }
 }
 
@@ -49,14 +80,17 @@ fn parent_name(
     entries: &[Entry],
     index: u16,
     names: &mut Names,
+    memo: &mut Memo,
 ) -> Result<Option<u32>, NameFault>
+    requires memo { IsMemo names.old entries.now memo.old }
     ensures number { IfOk result (λ n. IsParentName names.new entries.now n index) }
     ensures names { Interned result names.old names.new (option_to_list (class_name_at entries.now index)) }
+    ensures memo { OnOk result (IsMemo names.new entries.now memo.new) }
 {
     if entries::class_name(entries, index).is_none() {
         return Ok(None);
     }
-    match class_name(alloc, entries, index, names) {
+    match class_name(alloc, entries, index, names, memo) {
         Ok(name) => Ok(Some(name)),
         Err(fault) => Err(fault),
     }
@@ -68,14 +102,17 @@ fn class_names(
     entries: &[Entry],
     indexes: &[u16],
     names: &mut Names,
+    memo: &mut Memo,
 ) -> Result<Items<u32>, NameFault>
-    requires { IsTrue (list_all (is_class_index entries.now) indexes.now) }
+    requires memo { IsMemo names.old entries.now memo.old }
+    requires classes { IsTrue (list_all (is_class_index entries.now) indexes.now) }
     ensures numbers { IfOk result (λ numbers. AllZip (IsClassName names.new entries.now) numbers indexes.now) }
     ensures names { Interned result names.old names.new (flat_map (λ index. option_to_list (class_name_at entries.now index)) indexes.now) }
+    ensures memo { OnOk result (IsMemo names.new entries.now memo.new) }
 {
     let mut numbers = Vec::new(alloc);
     for index in indexes {
-        let number = class_name(alloc, entries, *index, names)?;
+        let number = class_name(alloc, entries, *index, names, memo)?;
         if numbers.push(number).is_err() {
             return Err(NameFault::Memory);
         }
@@ -98,8 +135,8 @@ fn kind(alloc: Global, descr: &[u8], names: &mut Names) -> Result<Kind, NameFaul
     }
 }
 
-/// The kind that the descriptor at an index says.
-fn kind_at(
+/// The kind that the descriptor at an index says, whatever is known of it.
+fn read_kind_at(
     alloc: Global,
     entries: &[Entry],
     index: u16,
@@ -116,21 +153,51 @@ fn kind_at(
     }
 }
 
+/// The kind that the descriptor at an index says, which is then known.
+fn kind_at(
+    alloc: Global,
+    entries: &[Entry],
+    index: u16,
+    names: &mut Names,
+    memo: &mut Memo,
+) -> Result<Kind, NameFault>
+    requires pool { IsTrue (is_thin_pool entries.now) }
+    requires descr { passes is_field_descriptor (text_at entries.now index) ≡ true }
+    requires memo { IsMemo names.old entries.now memo.old }
+    ensures kind { IfOk result (IsKindOf names.new (unwrap_or (text_at entries.now index) [])) }
+    ensures names { Interned result names.old names.new (kind_names (unwrap_or (text_at entries.now index) [])) }
+    ensures memo { OnOk result (IsMemo names.new entries.now memo.new) }
+{
+    if let Some(kind) = known_kind(memo, index) {
+        return Ok(kind);
+    }
+    match read_kind_at(alloc, entries, index, names) {
+        Ok(kind) => {
+            keep_kind(memo, index, kind);
+            Ok(kind)
+        }
+        Err(fault) => Err(fault),
+    }
+}
+
 /// A field in numbers of the table.
 fn field(
     alloc: Global,
     entries: &[Entry],
     member: &RawMember,
     names: &mut Names,
+    memo: &mut Memo,
 ) -> Result<Field, NameFault>
+    requires memo { IsMemo names.old entries.now memo.old }
     requires pool { IsTrue (is_thin_pool entries.now) }
     requires sound { is_sound_field entries.now member.now ≡ true }
     ensures field { IfOk result (λ f. IsNamedField names.new entries.now f member.now) }
     ensures names { Interned result names.old names.new (field_names entries.now member.now) }
+    ensures memo { OnOk result (IsMemo names.new entries.now memo.new) }
 {
-    let name = text(alloc, entries, member.name, names)?;
-    let descr = text(alloc, entries, member.descr, names)?;
-    let kind = kind_at(alloc, entries, member.descr, names)?;
+    let name = text(alloc, entries, member.name, names, memo)?;
+    let descr = text(alloc, entries, member.descr, names, memo)?;
+    let kind = kind_at(alloc, entries, member.descr, names, memo)?;
     Ok(Field {
         name,
         descr,
@@ -145,15 +212,18 @@ fn fields(
     entries: &[Entry],
     members: &[RawMember],
     names: &mut Names,
+    memo: &mut Memo,
 ) -> Result<Items<Field>, NameFault>
+    requires memo { IsMemo names.old entries.now memo.old }
     requires pool { IsTrue (is_thin_pool entries.now) }
     requires sound { IsTrue (list_all (is_sound_field entries.now) members.now) }
     ensures fields { IfOk result (λ fields. AllZip (IsNamedField names.new entries.now) fields members.now) }
     ensures names { Interned result names.old names.new (flat_map (field_names entries.now) members.now) }
+    ensures memo { OnOk result (IsMemo names.new entries.now memo.new) }
 {
     let mut fields = Vec::new(alloc);
     for member in members {
-        let one = field(alloc, entries, member, names)?;
+        let one = field(alloc, entries, member, names, memo)?;
         if fields.push(one).is_err() {
             return Err(NameFault::Memory);
         }
@@ -168,10 +238,14 @@ fn class(alloc: Global, raw: &Raw, names: &mut Names) -> Result<Class, NameFault
     ensures names { Interned result names.old names.new (raw_names raw.now) }
 {
     let entries = raw.pool.entries.as_slice();
-    let this = class_name(alloc, entries, raw.this, names)?;
-    let parent = parent_name(alloc, entries, raw.parent, names)?;
-    let interfaces = class_names(alloc, entries, raw.interfaces.as_slice(), names)?;
-    let fields = fields(alloc, entries, raw.fields.as_slice(), names)?;
+    let Ok(mut memo) = empty_memo(alloc, entries) else {
+        return Err(NameFault::Memory);
+    };
+    let memo = &mut memo;
+    let this = class_name(alloc, entries, raw.this, names, memo)?;
+    let parent = parent_name(alloc, entries, raw.parent, names, memo)?;
+    let interfaces = class_names(alloc, entries, raw.interfaces.as_slice(), names, memo)?;
+    let fields = fields(alloc, entries, raw.fields.as_slice(), names, memo)?;
     Ok(Class {
         name: this,
         parent,

@@ -1,14 +1,16 @@
 //! The conditions of JVMS SE 21 sections 4.1, 4.4 and 4.5 on the parts of a file.
 ghost use Rattle.std.specs.Prelude.{◌≡◌, ◌&&◌, nat_lt, codes, IsTrue, IfOk, length, ◌≤◌};
 ghost use Rattle.std.specs.List.{list_all};
-ghost use Rattle.fp_model.specs.Descriptor.{is_array_like, is_class_text};
+ghost use Rattle.fp_model.specs.Descriptor.{is_array_like};
 ghost use Rattle.std.specs.Str.{bytes_eq};
 ghost use Rattle.fp_model.specs.Thin.{passes, class_name_at};
 ghost use Rattle.fp_model.specs.Thin as thin;
+ghost use Rattle.fp_class.specs.Descriptors.{descriptor_marks};
 
+use crate::descriptors::{is_marked, mark_descriptors};
 use crate::entries::{class_name, text};
 use crate::repeats::has_no_repeat;
-use fp_model::{Entry, Raw, RawMember, is_kind};
+use fp_model::{Entry, Raw, RawMember};
 use std::alloc::{AllocError, Global};
 
 /// The flag of a module (JVMS SE 21 section 4.1).
@@ -28,20 +30,15 @@ fn is_array(text: &[u8]) -> bool
     matches!(text, [b'[', ..])
 }
 
-/// Whether a class entry may name a text.
-fn may_name_class(text: &[u8]) -> bool
-    ensures { result ≡ is_class_text text.now }
-{
-    !is_array(text) || is_kind(text)
-}
-
 /// Whether what an entry refers to is of the right kind.
-fn is_sound_entry(entries: &[Entry], entry: &Entry) -> bool
+#[tactic(auto, using(crate::proofs::Marks::marked))]
+fn is_sound_entry(entries: &[Entry], marks: &[bool], entry: &Entry) -> bool
+    requires { marks.now ≡ descriptor_marks entries.now }
     ensures { result ≡ thin.is_sound_entry entries.now entry.now }
 {
     match entry {
         Entry::Class(name) => match text(entries, *name) {
-            Some(name) => may_name_class(name),
+            Some(text) => !is_array(text) || is_marked(marks, *name),
             None => false,
         },
         _ => true,
@@ -76,21 +73,22 @@ fn is_parent(entries: &[Entry], this: u16, parent: u16) -> bool
 }
 
 /// Whether a field's name is a text and its descriptor that of a field.
-fn is_sound_field(entries: &[Entry], field: &RawMember) -> bool
+#[tactic(auto, using(crate::proofs::Marks::marked))]
+fn is_sound_field(entries: &[Entry], marks: &[bool], field: &RawMember) -> bool
+    requires { marks.now ≡ descriptor_marks entries.now }
     ensures { result ≡ thin.is_sound_field entries.now field.now }
 {
-    let has_name = text(entries, field.name).is_some();
-    match text(entries, field.descr) {
-        Some(descr) => has_name && is_kind(descr),
-        None => false,
-    }
+    text(entries, field.name).is_some() && is_marked(marks, field.descr)
 }
 
 /// Whether each entry refers to what it has to.
-fn are_sound_entries(entries: &[Entry]) -> bool
+fn are_sound_entries(entries: &[Entry], marks: &[bool]) -> bool
+    requires { marks.now ≡ descriptor_marks entries.now }
     ensures { result ≡ list_all (thin.is_sound_entry entries.now) entries.now }
 {
-    entries.iter().all(|entry| is_sound_entry(entries, entry))
+    entries
+        .iter()
+        .all(|entry| is_sound_entry(entries, marks, entry))
 }
 
 /// Whether each index is that of a class which is no array.
@@ -101,14 +99,18 @@ fn are_class_indexes(entries: &[Entry], indexes: &[u16]) -> bool
 }
 
 /// Whether each field has a name and a descriptor.
-fn are_sound_fields(entries: &[Entry], fields: &[RawMember]) -> bool
+fn are_sound_fields(entries: &[Entry], marks: &[bool], fields: &[RawMember]) -> bool
+    requires { marks.now ≡ descriptor_marks entries.now }
     ensures { result ≡ list_all (thin.is_sound_field entries.now) fields.now }
 {
-    fields.iter().all(|field| is_sound_field(entries, field))
+    fields
+        .iter()
+        .all(|field| is_sound_field(entries, marks, field))
 }
 
 /// Whether all is sound but the fields.
-fn is_sound_head(entries: &[Entry], raw: &Raw) -> bool
+fn is_sound_head(entries: &[Entry], marks: &[bool], raw: &Raw) -> bool
+    requires { marks.now ≡ descriptor_marks entries.now }
     ensures { result ≡ (thin.is_version raw.now.major raw.now.minor
         && (list_all (thin.is_sound_entry entries.now) entries.now
         && (nat_lt raw.now.flags MODULE
@@ -117,7 +119,7 @@ fn is_sound_head(entries: &[Entry], raw: &Raw) -> bool
         && list_all (thin.is_class_index entries.now) raw.now.interfaces))))) }
 {
     is_version(raw.major, raw.minor)
-        && are_sound_entries(entries)
+        && are_sound_entries(entries, marks)
         && raw.flags < MODULE
         && is_class_index(entries, raw.this)
         && is_parent(entries, raw.this, raw.parent)
@@ -131,10 +133,11 @@ pub fn is_sound(alloc: Global, raw: &Raw) -> Result<bool, AllocError>
 {
     let entries = raw.pool.entries.as_slice();
     let fields = raw.fields.as_slice();
-    if !is_sound_head(entries, raw) {
+    let marks = mark_descriptors(alloc, entries)?;
+    if !is_sound_head(entries, marks.as_slice(), raw) {
         return Ok(false);
     }
-    if !are_sound_fields(entries, fields) {
+    if !are_sound_fields(entries, marks.as_slice(), fields) {
         return Ok(false);
     }
     has_no_repeat(alloc, entries, fields)

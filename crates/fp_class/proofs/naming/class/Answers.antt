@@ -11,8 +11,8 @@ use Rattle.fp_class.proofs.NamedParts.{class_over, texts_whole}
 use Rattle.fp_class.proofs.Tables.{after_one, after_two, after_three, all_four, kept_by}
 use Rattle.fp_class.proofs.naming.class.Goals as goal
 
-pub class_name-requires : goal.class_name-requires
-class_name-requires c =
+pub class_name-requires-clause-there : goal.class_name-requires-clause-there
+class_name-requires-clause-there c =
     rw c.as_slice-entries.ensures
     (passes-is_some (λ name. not (is_array_like name)) (class_name_at c.args.raw.now.pool.entries c.args.raw.now.this) (sound_of c.args.raw.now c.requires.sound).this)
 

@@ -39,6 +39,7 @@ loop-index-preserved c =
           (AllZip-more (IsClassName c.class_name.new.names c.args.entries.now) _ _ c.in_ok-number.number index
           (AllZip-to (IsClassName c.loop-index.names c.args.entries.now) (IsClassName c.class_name.new.names c.args.entries.now) _ _ (λ n i is. IsClassName-kept c.loop-index.names c.class_name.new.names c.args.entries.now n i kept is) c.loop-index.invariant.numbers)
           c.in_ok-number.ensures.number);
+      memo = c.in_ok-number.ensures.memo;
     }
 
 pub returns-clause-names : goal.returns-clause-names

@@ -34,6 +34,7 @@ loop-member-preserved c =
           (AllZip-more (IsNamedField c.field.new.names c.args.entries.now) _ _ c.in_ok-one.one c.member-item.result
           (AllZip-to (IsNamedField c.loop-member.names c.args.entries.now) (IsNamedField c.field.new.names c.args.entries.now) _ _ (λ f m is. IsNamedField-kept c.loop-member.names c.field.new.names c.args.entries.now f m kept is) c.loop-member.invariant.fields)
           c.in_ok-one.ensures.field);
+      memo = c.in_ok-one.ensures.memo;
     }
 
 pub returns-clause-names : goal.returns-clause-names

@@ -1,10 +1,19 @@
-use Rattle.std.proofs.Common.{◌∷◌, [], subst}
+use Rattle.std.proofs.Common.{[], ◌∷◌, sym}
 use Rattle.std.specs.Option.{unwrap_or}
-use Rattle.fp_class.specs.Interning.{Interned}
-use Rattle.fp_class.proofs.Tables.{interned_one}
+use Rattle.fp_model.specs.Thin.{text_at}
+use Rattle.fp_class.proofs.Memos.{number_told, number_interned, number_within, number_noted}
 use Rattle.fp_class.proofs.naming.text.Goals as goal
 
-pub returns-clause-names : goal.returns-clause-names
-returns-clause-names c =
-    subst (λ o. Interned c.intern.result c.args.names.now c.intern.new.self (unwrap_or o [] ∷ [])) c.in-Some.ensures
-    (interned_one c.intern.result c.args.names.now c.intern.new.self c.in-Some.text.now c.intern.ensures.names c.intern.ensures.err c.intern.ensures.full.0)
+pub returns-in-Some-clause-number : goal.returns-in-Some-clause-number
+returns-in-Some-clause-number c = number_told c.args.names.now c.args.entries.now c.args.memo.now c.args.index c.in-Some.number c.requires.memo (sym c.in-Some.ensures)
+
+pub returns-in-Some-clause-names : goal.returns-in-Some-clause-names
+returns-in-Some-clause-names c = number_interned c.args.names.now c.args.entries.now c.args.memo.now c.args.index c.in-Some.number c.requires.memo (sym c.in-Some.ensures)
+
+pub keep_number-requires : goal.keep_number-requires
+keep_number-requires c = number_within c.args.names.now c.args.entries.now c.args.memo.now c.args.index c.requires.memo c.requires.there
+
+pub returns-in-Ok-clause-memo : goal.returns-in-Ok-clause-memo
+returns-in-Ok-clause-memo c =
+    number_noted c.args.names.now c.intern_text.new.names (unwrap_or (text_at c.args.entries.now c.args.index) [] ∷ []) c.args.entries.now c.args.memo.now c.keep_number.new.memo c.args.index c.in-Ok.number
+    c.requires.memo c.requires.there c.in-Ok.ensures.names c.in-Ok.ensures.number c.keep_number.ensures.numbers c.keep_number.ensures.kinds

@@ -1,0 +1,54 @@
+//! What is known of the texts of a constant pool, so that each is named and read once.
+ghost use Rattle.std.specs.Prelude.{◌≡◌, ◌<◌, ℕ, List, Some, length, set, IfOk};
+ghost use Rattle.fp_class.specs.Memos.{known_at, IsMemo};
+
+use fp_model::{Entry, Kind};
+use std::alloc::{AllocError, Global};
+
+/// The numbers of texts and the kinds that descriptors say, by the indexes of the constant pool, as far as they are known.
+#[derive(Drop)]
+pub struct Memo {
+    pub numbers: Vec<Option<u32>>,
+    pub kinds: Vec<Option<Kind>>,
+}
+
+/// A memo in which nothing is known.
+pub fn empty_memo(alloc: Global, entries: &[Entry]) -> Result<Memo, AllocError>
+    ensures { IfOk result (λ memo. (names : List (List ℕ)) → IsMemo names entries.now memo) }
+{
+    let numbers = vec![in alloc; None; entries.len()]?;
+    let kinds = vec![in alloc; None; entries.len()]?;
+    Ok(Memo { numbers, kinds })
+}
+
+/// The number of the text at an index, if it is known.
+pub fn known_number(memo: &Memo, index: u16) -> Option<u32>
+    ensures { result ≡ known_at memo.now.numbers.items index }
+{
+    memo.numbers.get(index as usize).copied().flatten()
+}
+
+/// The kind that the descriptor at an index says, if it is known.
+pub fn known_kind(memo: &Memo, index: u16) -> Option<Kind>
+    ensures { result ≡ known_at memo.now.kinds.items index }
+{
+    memo.kinds.get(index as usize).copied().flatten()
+}
+
+/// Keeps the number of the text at an index.
+pub fn keep_number(memo: &mut Memo, index: u16, number: u32)
+    requires { index < length memo.old.numbers.items }
+    ensures numbers { memo.new.numbers.items ≡ set memo.old.numbers.items index (Some number) }
+    ensures kinds { memo.new.kinds.items ≡ memo.old.kinds.items }
+{
+    memo.numbers[index as usize] = Some(number);
+}
+
+/// Keeps the kind that the descriptor at an index says.
+pub fn keep_kind(memo: &mut Memo, index: u16, kind: Kind)
+    requires { index < length memo.old.kinds.items }
+    ensures kinds { memo.new.kinds.items ≡ set memo.old.kinds.items index (Some kind) }
+    ensures numbers { memo.new.numbers.items ≡ memo.old.numbers.items }
+{
+    memo.kinds[index as usize] = Some(kind);
+}
