@@ -4,7 +4,7 @@ use Rattle.std.proofs.lemmas.Bool.{and_parts, and_from}
 use Rattle.std.proofs.lemmas.List.{length-replicate}
 use Rattle.std.proofs.lemmas.List.Folds.{list_any-append}
 use Rattle.std.specs.List.{list_all, slice_get}
-use Rattle.std.specs.Option.{is_some, option_flatten, option_to_list, unwrap_or}
+use Rattle.std.specs.Option.{is_some, option_to_list, unwrap_or}
 use Rattle.std.specs.Str.{bytes_eq}
 use Rattle.fp_base.specs.Names.{has_name, with_name, with_names}
 use Rattle.fp_base.specs.declared.names.NameFault.{NameFault}

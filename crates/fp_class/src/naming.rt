@@ -17,7 +17,12 @@ use sqlite_items::{Items, at};
 use std::alloc::Global;
 
 /// The number of the text at an index, whatever is known of it.
-fn intern_text(alloc: Global, entries: &[Entry], index: u16, names: &mut Names) -> Result<u32, NameFault>
+fn intern_text(
+    alloc: Global,
+    entries: &[Entry],
+    index: u16,
+    names: &mut Names,
+) -> Result<u32, NameFault>
     requires { is_some (text_at entries.now index) ≡ true }
     ensures number { IfOk result (λ n. slice_get names.new n ≡ text_at entries.now index) }
     ensures names { Interned result names.old names.new (unwrap_or (text_at entries.now index) [] ∷ []) }

@@ -60,6 +60,19 @@ fn file(alloc: Global, path: &str, bytes: &[u8]) -> Result<(String, Vec<u8>), Al
     ))
 }
 
+/// Files of the same bytes.
+fn files(
+    alloc: Global,
+    paths: &[&str],
+    bytes: &[u8],
+) -> Result<Vec<(String, Vec<u8>)>, AllocError> {
+    let mut files = Vec::new(alloc);
+    for path in paths {
+        files.push(file(alloc, path, bytes)?)?;
+    }
+    Ok(files)
+}
+
 /// A copy with one byte changed.
 fn changed(alloc: Global, bytes: &[u8], at: usize, byte: u8) -> Result<Vec<u8>, AllocError> {
     let mut copy = Vec::from_slice(alloc, bytes)?;
@@ -151,10 +164,7 @@ fn refuses_another_number_of_files_than_one_and_a_long_file(rt: HostRuntime) -> 
         ),
     ];
     for (paths, bytes, err) in cases {
-        let mut files = Vec::new(alloc);
-        for path in paths {
-            files.push(file(alloc, path, bytes)?)?;
-        }
+        let files = files(alloc, paths, bytes)?;
         let ending = run(&rt, alloc, &WORDS, files, Vec::new(alloc), Vec::new(alloc))?;
         assert_eq!(rt; ending.status, Status::Refused);
         assert_eq!(rt; ending.err.as_slice(), err.as_bytes());
