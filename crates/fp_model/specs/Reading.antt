@@ -30,14 +30,14 @@ Gives (Err e) read = Fails e read
 
 -- so many bytes
 unfoldable pub bytes_at : ℕ → List ℕ → ℕ → Result (List ℕ × ℕ) FileFault
-bytes_at count bytes at = if nat_le (at + count) (length bytes) then Ok (take count (drop at bytes), at + count) else Err unbuilt
+bytes_at count bytes at = if nat_le (at + count) (length bytes) then Ok (take count (drop at bytes), at + count) else Err (fault.Truncated at)
 
 -- a number, the high byte first
 unfoldable pub number_at : Width → List ℕ → ℕ → Result (ℕ × ℕ) FileFault
 number_at w bytes at =
     if nat_le (at + byte_len w) (length bytes)
     then Ok (from_be_bytes w (take (byte_len w) (drop at bytes)), at + byte_len w)
-    else Err unbuilt
+    else Err (fault.Truncated at)
 
 -- so many of one kind, one after the other
 unfoldable pub many_at : {A : Type 0} → (ℕ → Result (A × ℕ) FileFault) → ℕ → List A → ℕ → Result (List A × ℕ) FileFault

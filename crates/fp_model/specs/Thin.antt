@@ -175,9 +175,18 @@ parts_of bytes = do
   is_whole ← demanded (attributes == length bytes) unbuilt
   Ok (record { minor = minor.0; major = major.0; pool = pool.0; flags = flags.0; this = this.0; parent = parent.0; interfaces = interfaces.0; fields = fields.0; methods = []; attributes = [] })
 
--- the thin class file that the bytes are, or the fault
-unfoldable pub class_of : List ℕ → Result Raw FileFault
-class_of bytes = do
+-- the thin class file that the bytes are, or why they are none
+unfoldable pub thin_of : List ℕ → Result Raw FileFault
+thin_of bytes = do
   raw ← parts_of bytes
   passed ← demanded (is_sound raw) unbuilt
   Ok raw
+
+-- whatever a file lacks of a thin one, it is not read yet
+abbrev pub or_unbuilt : {A : Type 0} → Result A FileFault → Result A FileFault
+or_unbuilt (Ok x) = Ok x
+or_unbuilt (Err e) = Err unbuilt
+
+-- the thin class file that the bytes are, or that they are not read yet
+abbrev pub class_of : List ℕ → Result Raw FileFault
+class_of bytes = or_unbuilt (thin_of bytes)

@@ -20,7 +20,7 @@ pub fn u8_at(bytes: &[u8], at: u32) -> Result<(u8, u32), FileFault>
     ensures { Gives result (number_at w8 bytes.now at) }
 {
     if !lies(bytes, at, 1) {
-        return Err(FileFault::Unbuilt { at: 0 });
+        return Err(FileFault::Truncated { at });
     }
     Ok((bytes[at as usize], at + 1))
 }
@@ -32,7 +32,7 @@ pub fn u16_at(bytes: &[u8], at: u32) -> Result<(u16, u32), FileFault>
     ensures { Gives result (number_at w16 bytes.now at) }
 {
     if !lies(bytes, at, 2) {
-        return Err(FileFault::Unbuilt { at: 0 });
+        return Err(FileFault::Truncated { at });
     }
     let i = at as usize;
     Ok((u16::from_be_bytes([bytes[i], bytes[i + 1]]), at + 2))
@@ -45,7 +45,7 @@ pub fn u32_at(bytes: &[u8], at: u32) -> Result<(u32, u32), FileFault>
     ensures { Gives result (number_at w32 bytes.now at) }
 {
     if !lies(bytes, at, 4) {
-        return Err(FileFault::Unbuilt { at: 0 });
+        return Err(FileFault::Truncated { at });
     }
     let i = at as usize;
     let number = u32::from_be_bytes([bytes[i], bytes[i + 1], bytes[i + 2], bytes[i + 3]]);
@@ -64,7 +64,7 @@ pub fn run_at(
     ensures { Gives result (bytes_at count bytes.now at) }
 {
     if !lies(bytes, at, count) {
-        return Err(FileFault::Unbuilt { at: 0 });
+        return Err(FileFault::Truncated { at });
     }
     let start = at as usize;
     let copy = Items::from_slice(alloc, &bytes[start..start + count as usize])?;
