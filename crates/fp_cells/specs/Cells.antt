@@ -1,5 +1,5 @@
 -- Cells, and the places that they take.
-use Rattle.std.specs.Prelude.{◌≡◌, ℕ, ◌+◌, ◌/◌, ◌<◌, ◌≤◌, max, Bool, true, false, ◌&&◌, List, [], ◌∷◌, ◌++◌, Option, None, Some, if◌then◌else◌, replicate, is_some, slice_get, take, ⊤}
+use Rattle.std.specs.Prelude.{◌≡◌, ℕ, ◌+◌, ◌/◌, ◌<◌, ◌≤◌, ◌==◌, max, Bool, true, false, ◌&&◌, List, [], ◌∷◌, ◌++◌, Option, None, Some, if◌then◌else◌, replicate, is_some, slice_get, take, ⊤}
 use Rattle.std.specs.Option.{option_map}
 use Rattle.std.specs.List.{list_any}
 use Rattle.fp_cells.specs.declared.kind.KindId.{KindId}
@@ -44,6 +44,11 @@ abbrev pub first_place : List Cell → KindId → Entity → Option ℕ
 first_place [] kind entity = None
 first_place (cell ∷ cells) kind entity =
     if is_cell_of kind entity cell then Some 0 else option_map (λ place. places_of cell.bits + place) (first_place cells kind entity)
+
+-- the cell whose first place this is, where the first of the cells begins at `first`
+abbrev pub cell_from : List Cell → (first place : ℕ) → Option Cell
+cell_from [] first place = None
+cell_from (cell ∷ cells) first place = if first == place then Some cell else cell_from cells (first + places_of cell.bits) place
 
 -- no kind and entity have two cells
 abbrev pub AreDistinct : List Cell → Type 0

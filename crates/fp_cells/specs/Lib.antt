@@ -3,3 +3,4 @@ pub mod Words
 pub mod Texts
 pub mod Lists
 pub mod Spots
+pub mod Entities
