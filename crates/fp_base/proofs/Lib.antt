@@ -4,5 +4,6 @@ pub mod CallLemmas
 pub mod EscapeLemmas
 pub mod FileLemmas
 pub mod NameLemmas
+pub mod OrderLemmas
 pub mod ReadLemmas
 pub mod SinkLemmas

@@ -7,3 +7,4 @@ pub mod Host
 pub mod MemDir
 pub mod MemSink
 pub mod Names
+pub mod Order

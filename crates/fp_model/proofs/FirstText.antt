@@ -1,37 +1,11 @@
 -- The first of texts by their bytes is one of them, and none comes before it.
-use Rattle.std.proofs.Common.{◌≡◌, ℕ, suc, ◌<◌, Bool, true, false, cond, List, [], ◌∷◌, Option, Some, None, All, Contains, inl, inr, ⊎_elim, refl, sym, ap, subst, ◌∙◌, is_lt, is_gt, nat_cmp, Ordering, Less, Equal, Greater, arith}
-use Rattle.std.specs.Cmp.Lexicographic.{slice_cmp}
-use Rattle.std.specs.Ordering.{ordering_reverse}
-use Rattle.std.proofs.lemmas.Cmp.{nat_list_cmp_total, upto, tied_itself}
+use Rattle.std.proofs.Common.{◌≡◌, ℕ, suc, ◌<◌, Bool, true, false, cond, List, [], ◌∷◌, Option, Some, None, All, Contains, inl, inr, ⊎_elim, refl, sym, ap, subst, ◌∙◌, arith}
 use Rattle.std.proofs.lemmas.Bool.{cases_Bool, cond-true, cond-false, false≢true}
 use Rattle.std.proofs.lemmas.List.Elements.{All-nil, All-cons, All-weaker}
 use Rattle.std.proofs.lemmas.Option.{none-some, same_Some}
-use Rattle.fp_model.specs.ClassSet.{is_before, earlier, least_text, IsFirstOf}
-
-before_reversed : (r s : Ordering) → r ≡ ordering_reverse s → is_lt r ≡ is_gt s
-before_reversed r Less e = ap is_lt e
-before_reversed r Equal e = ap is_lt e
-before_reversed r Greater e = ap is_lt e
-
--- a text comes before another where that is the greater one
-before_is : (a b : List ℕ) → is_before a b ≡ is_gt (slice_cmp nat_cmp b a)
-before_is a b = before_reversed (slice_cmp nat_cmp a b) (slice_cmp nat_cmp b a) (nat_list_cmp_total.antisymm a b)
-
-not_before_itself : (a : List ℕ) → is_before a a ≡ false
-not_before_itself a = ap is_lt (tied_itself nat_list_cmp_total a)
-
--- what doesn't come before a text doesn't come before an earlier one
-not_before : (a b c : List ℕ) → is_before b a ≡ false → is_before c b ≡ false → is_before c a ≡ false
-not_before a b c first second =
-    before_is c a ∙ upto nat_list_cmp_total a b c (sym (before_is b a) ∙ first) (sym (before_is c b) ∙ second)
-
-not_after : (r : Ordering) → is_lt r ≡ true → is_gt r ≡ false
-not_after Less e = refl
-not_after Equal e = refl
-not_after Greater e = absurd (false≢true e)
-
-before_one_way : (a b : List ℕ) → is_before a b ≡ true → is_before b a ≡ false
-before_one_way a b e = before_is b a ∙ not_after (slice_cmp nat_cmp a b) e
+use Rattle.fp_base.specs.Order.{is_before}
+use Rattle.fp_base.proofs.OrderLemmas.{not_before_itself, not_before, before_one_way}
+use Rattle.fp_model.specs.ClassSet.{earlier, least_text, IsFirstOf}
 
 pub least_text-None : (texts : List (List ℕ)) → least_text texts ≡ None → texts ≡ []
 unfolding least_text

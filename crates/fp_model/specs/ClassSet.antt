@@ -2,8 +2,6 @@
 use Rattle.std.specs.Prelude.{◌≡◌, ◌≢◌, ℕ, suc, zero, ◌+◌, ◌<◌, ◌≤◌, ◌^◌, ◌==◌, nat_lt, Bool, true, false, ◌||◌, List, [], ◌∷◌, length, take, map, filter, position, slice_get, option_and_then, option_map, Option, Some, None, IfSome, All, Contains, zip, count_by, string_bytes, if◌then◌else◌}
 use Rattle.std.specs.List.{flat_map, range_with_len}
 use Rattle.std.specs.Option.{option_or}
-use Rattle.std.specs.Ordering.{nat_cmp, is_lt}
-use Rattle.std.specs.Cmp.Lexicographic.{slice_cmp}
 use Rattle.fp_model.specs.declared.class.Class.{Class}
 use Rattle.fp_model.specs.declared.class.Field.{Field}
 use Rattle.fp_model.specs.declared.class.Method.{Method}
@@ -11,6 +9,7 @@ use Rattle.fp_model.specs.declared.class_set.fault.SetFault.{SetFault}
 use Rattle.fp_model.specs.declared.class_set.fault.SetFault.TheVariants as fault
 use Rattle.fp_base.specs.Escape.{escaped_name}
 use Rattle.fp_base.specs.Names.{AreDistinct}
+use Rattle.fp_base.specs.Order.{is_before}
 use Rattle.fp_model.specs.Descriptor.{text_of, IsKindOf, IsDescrOf}
 
 -- a set of classes, and the table of names that its numbers are of
@@ -66,10 +65,6 @@ is_on_cycle classes id = comes_back (superclass_of classes) (length classes) id
 -- more than one class has the name of this one
 abbrev pub has_namesake : List Class → Class → Bool
 has_namesake classes c = nat_lt 1 (count_by (λ d. d.name == c.name) classes)
-
--- a text comes before another, by their bytes
-abbrev pub is_before : List ℕ → List ℕ → Bool
-is_before a b = is_lt (slice_cmp nat_cmp a b)
 
 -- the text, or another one that comes before it
 abbrev pub earlier : List ℕ → Option (List ℕ) → List ℕ
