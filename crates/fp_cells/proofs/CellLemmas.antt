@@ -30,7 +30,7 @@ is_some-map f None = refl
 is_some-map f (Some p) = refl
 
 module _ (kind : KindId) (entity : Entity) where
-  abbrev is_key : KindId × Entity → Bool
+  abbrev pub is_key : KindId × Entity → Bool
   is_key key = kinds.eq kind key.0 && entities.eq entity key.1
 
   -- the spot of a cell has its first place

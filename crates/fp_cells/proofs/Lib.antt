@@ -1,3 +1,5 @@
+mod BeginLemmas
 mod CellLemmas
+mod EntityLemmas
 mod ListLemmas
 mod NumberingLemmas

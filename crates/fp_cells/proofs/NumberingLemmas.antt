@@ -39,12 +39,12 @@ same_entity (Site a) (Method b) h = absurd (cc)
 
 -- ---- the owners of places
 
-slice_get-replicate_first : {A : Type 0} (n : ℕ) (x : A) (ys : List A) (k : ℕ) → k < n → slice_get (replicate n x ++ ys) k ≡ Some x
+pub slice_get-replicate_first : {A : Type 0} (n : ℕ) (x : A) (ys : List A) (k : ℕ) → k < n → slice_get (replicate n x ++ ys) k ≡ Some x
 slice_get-replicate_first zero x ys k h = elim h [ ]
 slice_get-replicate_first (suc n) x ys zero h = refl
 slice_get-replicate_first (suc n) x ys (suc k) h = slice_get-replicate_first n x ys k (omega arith)
 
-slice_get-replicate_rest : {A : Type 0} (n : ℕ) (x : A) (ys : List A) (m k : ℕ) → m ≡ n + k → slice_get (replicate n x ++ ys) m ≡ slice_get ys k
+pub slice_get-replicate_rest : {A : Type 0} (n : ℕ) (x : A) (ys : List A) (m k : ℕ) → m ≡ n + k → slice_get (replicate n x ++ ys) m ≡ slice_get ys k
 slice_get-replicate_rest zero x ys m k h = ap (slice_get ys) (h ∙ zero-add k)
 slice_get-replicate_rest (suc n) x ys zero k h = absurd (omega arith)
 slice_get-replicate_rest (suc n) x ys (suc m) k h = slice_get-replicate_rest n x ys m k (omega arith)

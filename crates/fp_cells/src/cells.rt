@@ -1,6 +1,6 @@
 //! The cells of a run of analyses, and the places that hold their values.
-ghost use Rattle.std.specs.Prelude.{◌≡◌, ◌+◌, ◌<◌, ◌^◌, ◌++◌, ◌∷◌, [], List, false, is_some, IfOk, OnOk, OnErr};
-ghost use Rattle.fp_cells.specs.Cells.{AreDistinct, Cell, IsNumbering, cell_at, first_place, has_cell, places_of, total_places};
+ghost use Rattle.std.specs.Prelude.{◌≡◌, ◌+◌, ◌<◌, ◌^◌, ◌++◌, ◌∷◌, ◌==◌, ◌↔◌, [], List, Some, None, false, if◌then◌else◌, is_some, length, option_map, slice_get, IfOk, IsTrue, OnOk, OnErr};
+ghost use Rattle.fp_cells.specs.Cells.{AreDistinct, Cell, IsNumbering, cell_at, cell_from, first_place, has_cell, places_of, total_places};
 
 use crate::kind::{Entity, KindId};
 use indexmap::IndexMap;
@@ -99,6 +99,41 @@ impl Cells {
     {
         self.owners.get(place as usize).copied()
     }
+
+    /// The kind, the entity and the number of bits of the cell whose first place this is, if there is one. Takes no memory.
+    pub fn begins(&self, place: u32) -> Option<(KindId, Entity, u32)>
+        ensures cell { result ≡ option_map (λ c. (c.kind, c.entity, c.bits)) (cell_from self.now 0 place) }
+        ensures distinct { AreDistinct self.now }
+    {
+        let (kind, entity) = self.cell_of(place)?;
+        let spot = self.spots.get(&(kind, entity))?;
+        begun(kind, entity, *spot, place)
+    }
+
+    /// How many cells there are.
+    pub fn len(&self) -> u32
+        ensures len { result ≡ length self.now }
+        ensures distinct { AreDistinct self.now }
+    {
+        self.spots.len() as u32
+    }
+
+    /// Whether there is no cell.
+    pub fn is_empty(&self) -> bool
+        ensures empty { IsTrue result ↔ (self.now ≡ []) }
+        ensures distinct { AreDistinct self.now }
+    {
+        self.spots.is_empty()
+    }
+
+    /// The kind, the entity and the number of bits of the `i`-th cell in the order of adding, counted from 0. Takes no memory.
+    pub fn cell(&self, i: u32) -> Option<(KindId, Entity, u32)>
+        ensures cell { result ≡ option_map (λ c. (c.kind, c.entity, c.bits)) (slice_get self.now i) }
+        ensures distinct { AreDistinct self.now }
+    {
+        let (key, spot) = self.spots.get_index(i as usize)?;
+        Some((key.0, key.1, spot.bits))
+    }
 }
 
 /// The places of cells are numbered one to one: a cell's first place leads back to it, each place below the total belongs to one
@@ -106,6 +141,17 @@ impl Cells {
 pub fn law_places()
     ensures { (cells : List Cell) → AreDistinct cells → IsNumbering cells }
 {}
+
+// The cell of a spot, where it begins at the place.
+fn begun(kind: KindId, entity: Entity, spot: Spot, place: u32) -> Option<(KindId, Entity, u32)>
+    ensures { result ≡ (if spot.first == place then Some (kind, entity, spot.bits) else None) }
+{
+    if spot.first == place {
+        Some((kind, entity, spot.bits))
+    } else {
+        None
+    }
+}
 
 // How many places a value of so many bits takes.
 fn count_places(bits: u32) -> u32
@@ -165,6 +211,16 @@ mod tests {
         assert_eq!(rt; cells.cell_of(7), Some((KindId::Callees, site)));
         assert_eq!(rt; cells.cell_of(8), Some((KindId::Leak, Entity::Method(4))));
         assert_eq!(rt; cells.cell_of(9), None);
+        assert_eq!(rt; cells.begins(4), Some((KindId::Callees, site, 200)));
+        assert_eq!(rt; cells.begins(3), None);
+        assert_eq!(rt; cells.begins(8), Some((KindId::Leak, Entity::Method(4), 0)));
+        assert_eq!(rt; cells.begins(9), None);
+        assert_eq!(rt; cells.len(), 5);
+        assert_eq!(rt;
+            cells.cell(2),
+            Some((KindId::Purity, Entity::Method(3), 65))
+        );
+        assert_eq!(rt; cells.cell(5), None);
         Ok(())
     }
 }

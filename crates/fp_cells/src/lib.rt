@@ -2,9 +2,13 @@
 #![tactic(auto)]
 
 mod cells;
+mod entity;
 mod kind;
 mod text;
+mod view;
 
 pub use cells::{Cells, law_places};
+pub use entity::{append_entity, kind_text};
 pub use kind::{Entity, KindId};
 pub use text::value_text;
+pub use view::JavaView;
