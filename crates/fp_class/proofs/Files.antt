@@ -10,7 +10,7 @@ use Rattle.fp_model.specs.declared.raw.pool.Entry.TheVariants as entry
 use Rattle.fp_model.specs.declared.raw.Raw.{Raw}
 use Rattle.fp_model.specs.Reading.{Gives, unbuilt, demanded, number_at, counted_at, nothing_at}
 use Rattle.fp_model.specs.Spelling.{u2, u4, counted, spelled_pool, spelled_member, spelled_attr, spelled}
-use Rattle.fp_model.specs.Thin.{is_u2, is_thin_entry, is_thin_pool, is_bare, has_thin_form, is_sound, IsThin, pool_at, field_at, parts_of, class_of}
+use Rattle.fp_model.specs.Thin.{is_u2, is_thin_entry, is_thin_pool, is_bare, has_thin_form, is_sound, IsThin, pool_at, field_at, parts_of, thin_of, or_unbuilt, class_of}
 use Rattle.fp_model.proofs.Takes.{Takes, Takes-then, Takes-split, Takes-whole, Takes-all}
 use Rattle.fp_model.proofs.Readers.{opened, stepped, demanded-true, demanded-Ok, IsBytes, IsReader, reads_u2, u4_takes, u4_again, reads_counted, nothing_takes, nothing_again}
 use Rattle.fp_class.proofs.Pieces.{reads_pool, reads_field}
@@ -141,10 +141,14 @@ module _ (bytes : List ℕ) (raw : Raw) (form : Form raw) where
       (ap Ok bare))))))))))))
       ) r7) r6) r5) r4) r3) r2) r1) r0) p
 
--- what is read is a thin class file, and the bytes are its spelling
-pub class_taken : (bytes : List ℕ) → IsBytes bytes → length bytes < 2 ^ 32 → (raw : Raw) → class_of bytes ≡ Ok raw → IsThin raw × (spelled raw ≡ bytes)
-unfolding class_of
-class_taken bytes below short raw e =
+-- what is read although the answer tells no other fault
+or_unbuilt-Ok : {A : Type 0} (read : Result A FileFault) (x : A) → or_unbuilt read ≡ Ok x → read ≡ Ok x
+or_unbuilt-Ok (Ok y) x e = e
+or_unbuilt-Ok (Err f) x e = absurd (cc)
+
+thin_taken : (bytes : List ℕ) → IsBytes bytes → length bytes < 2 ^ 32 → (raw : Raw) → thin_of bytes ≡ Ok raw → IsThin raw × (spelled raw ≡ bytes)
+unfolding thin_of
+thin_taken bytes below short raw e =
     opened (parts_of bytes) _ (λ found parts more.
     opened (demanded (is_sound found) unbuilt) _ (λ u passed last.
     let is : found ≡ raw = cc in
@@ -153,12 +157,19 @@ class_taken bytes below short raw e =
     subst (λ r. IsThin r × (spelled r ≡ bytes)) is
     (record { form = taken.0; sound = demanded-true (is_sound found) unbuilt passed; short = subst (λ text. length text < 2 ^ 32) (sym same) short }, same)) more) e
 
--- a thin class file is read from its spelling
-pub class_again : (raw : Raw) → IsThin raw → class_of (spelled raw) ≡ Ok raw
-unfolding class_of
-class_again raw thin =
+-- what is read is a thin class file, and the bytes are its spelling
+pub class_taken : (bytes : List ℕ) → IsBytes bytes → length bytes < 2 ^ 32 → (raw : Raw) → class_of bytes ≡ Ok raw → IsThin raw × (spelled raw ≡ bytes)
+class_taken bytes below short raw e = thin_taken bytes below short raw (or_unbuilt-Ok (thin_of bytes) raw e)
+
+thin_again : (raw : Raw) → IsThin raw → thin_of (spelled raw) ≡ Ok raw
+unfolding thin_of
+thin_again raw thin =
     stepped (parts_of (spelled raw)) _ raw (parts_again (spelled raw) raw (form_of raw thin.form) (Takes-all (spelled raw)))
     (stepped (demanded (is_sound raw) unbuilt) _ tt (demanded-Ok (is_sound raw) unbuilt thin.sound) refl)
+
+-- a thin class file is read from its spelling
+pub class_again : (raw : Raw) → IsThin raw → class_of (spelled raw) ≡ Ok raw
+class_again raw thin = ap or_unbuilt (thin_again raw thin)
 
 -- no two thin class files have one spelling
 pub one_spelling : (a b : Raw) → IsThin a → IsThin b → spelled a ≡ spelled b → a ≡ b

@@ -23,6 +23,18 @@ many_at-end read count i at before e = let k : count - i ≡ 0 = omega arith in 
 -- a call that fails where a step does, fails where the loop does
 pub Fails-bind : {A B : Type 0} (e : FileFault) (read : Result A FileFault) (next : A → Result B FileFault) → Fails e read → Fails e (read >>= next)
 Fails-bind (fault.Unbuilt at) read next h = rw h refl
+Fails-bind (fault.Truncated at) read next h = rw h refl
+Fails-bind fault.Magic read next h = rw h refl
+Fails-bind (fault.Version major minor) read next h = rw h refl
+Fails-bind (fault.Tag at tag) read next h = rw h refl
+Fails-bind (fault.Index at index) read next h = rw h refl
+Fails-bind (fault.Descriptor at) read next h = rw h refl
+Fails-bind (fault.Opcode at byte) read next h = rw h refl
+Fails-bind (fault.Subroutine at) read next h = rw h refl
+Fails-bind (fault.Bounds at) read next h = rw h refl
+Fails-bind (fault.CodeCount method) read next h = rw h refl
+Fails-bind (fault.Repeat at) read next h = rw h refl
+Fails-bind (fault.Trailing at) read next h = rw h refl
 Fails-bind fault.Memory read next h = tt
 
 fails_first : {A : Type 0} (e : FileFault) (read : ℕ → Result (A × ℕ) FileFault) (left at : ℕ) (before : List A) → Fails e (read at) → Fails e (many_at read (suc left) before at)
