@@ -153,8 +153,8 @@ fn begun(kind: KindId, entity: Entity, spot: Spot, place: u32) -> Option<(KindId
     }
 }
 
-// How many places a value of so many bits takes.
-fn count_places(bits: u32) -> u32
+/// How many places a value of so many bits takes: one for each 64 bits, and at least one.
+pub fn count_places(bits: u32) -> u32
     ensures { result ≡ places_of bits }
 {
     bits.div_ceil(64).max(1)

@@ -7,7 +7,7 @@ mod kind;
 mod text;
 mod view;
 
-pub use cells::{Cells, law_places};
+pub use cells::{Cells, count_places, law_places};
 pub use entity::{append_entity, kind_text};
 pub use kind::{Entity, KindId};
 pub use text::value_text;

@@ -1,5 +1,5 @@
 -- The class that a raw class file stands for, in numbers of a table of names.
-use Rattle.std.specs.Prelude.{◌≡◌, ℕ, List, [], ◌∷◌, ◌++◌, map, slice_get, option_and_then, unwrap_or}
+use Rattle.std.specs.Prelude.{◌≡◌, ℕ, ◌-◌, ◌==◌, List, [], ◌∷◌, ◌++◌, length, take, drop, map, slice_get, Option, option_and_then, option_map, unwrap_or, if◌then◌else◌}
 use Rattle.std.specs.List.{flat_map, AllZip}
 use Rattle.std.specs.Option.{option_to_list}
 use Rattle.fp_model.specs.declared.raw.pool.Entry.{Entry}
@@ -7,7 +7,12 @@ use Rattle.fp_model.specs.declared.raw.RawMember.{RawMember}
 use Rattle.fp_model.specs.declared.raw.Raw.{Raw}
 use Rattle.fp_model.specs.declared.class.Class.{Class}
 use Rattle.fp_model.specs.declared.class.Field.{Field}
-use Rattle.fp_model.specs.Descriptor.{kind_names}
+use Rattle.fp_model.specs.declared.kind.Kind.{Kind}
+use Rattle.fp_model.specs.declared.kind.Kind.TheVariants as kind
+use Rattle.fp_model.specs.declared.kind.Elem.{Elem}
+use Rattle.fp_model.specs.declared.kind.Elem.TheVariants as elem
+use Rattle.fp_base.specs.Names.{number_of}
+use Rattle.fp_model.specs.Descriptor.{kind_names, dimensions}
 use Rattle.fp_model.specs.Thin.{text_at, class_name_at}
 use Rattle.fp_model.specs.ClassSet.{IsClassOver}
 
@@ -41,3 +46,47 @@ pub record IsClassOf (names : List (List ℕ)) (c : Class) (raw : Raw) : Type 0 
   pub interfaces : map (slice_get names) c.interfaces ≡ map (class_name_at raw.pool.entries) raw.interfaces
   pub fields : AllZip (IsFieldOf names raw.pool.entries) c.fields raw.fields
   pub methods : c.methods ≡ []
+
+-- the type of an element that a text says, over a table that has the name in it
+abbrev pub element_in : List (List ℕ) → List ℕ → Elem
+element_in names [] = elem.Prim 0
+element_in names (c ∷ rest) = if c == 76 then elem.Class (number_of names (take (length rest - 1) rest)) else elem.Prim c
+
+-- the kind of a type that is no array
+abbrev pub kind_of_element : Elem → Kind
+kind_of_element (elem.Class name) = kind.Class name
+kind_of_element (elem.Prim letter) =
+    if letter == 74 then kind.Long
+    else if letter == 70 then kind.Float
+    else if letter == 68 then kind.Double
+    else kind.Int letter
+
+-- the kind that a field descriptor says
+abbrev pub kind_in : List (List ℕ) → List ℕ → Kind
+kind_in names text =
+    if dimensions text == 0 then kind_of_element (element_in names text)
+    else kind.Array (dimensions text) (element_in names (drop (dimensions text) text))
+
+-- the number of a text, of one that isn't there too
+abbrev pub number_in : List (List ℕ) → Option (List ℕ) → ℕ
+number_in names text = number_of names (unwrap_or text [])
+
+-- the field of the file, in numbers of the table
+abbrev pub field_in : List (List ℕ) → List Entry → RawMember → Field
+field_in names entries field = record {
+  name = number_in names (text_at entries field.name);
+  descr = number_in names (text_at entries field.descr);
+  kind = kind_in names (unwrap_or (text_at entries field.descr) []);
+  flags = field.flags;
+}
+
+-- the class of the file, in numbers of the table
+abbrev pub class_in : List (List ℕ) → Raw → Class
+class_in names raw = record {
+  name = number_in names (class_name_at raw.pool.entries raw.this);
+  parent = option_map (number_of names) (class_name_at raw.pool.entries raw.parent);
+  interfaces = map (λ index. number_in names (class_name_at raw.pool.entries index)) raw.interfaces;
+  flags = raw.flags;
+  fields = map (field_in names raw.pool.entries) raw.fields;
+  methods = [];
+}

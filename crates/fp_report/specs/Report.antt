@@ -62,13 +62,13 @@ report set cells targets shown values wanted =
 
 -- a cell's entity is of the set, and its places are those of its kind, with the targets' bits and that of the outside
 pub record IsCellOf (set : SetView) (targets : List (SiteId × List ℕ)) (cell : Cell) : Type 0 where
-  pub entity : IsEntityOf set cell.entity
-  pub targets : All (λ m. m < length (methods_of set.classes)) (cell_targets targets cell.kind cell.entity)
+  pub of_set : IsEntityOf set cell.entity
+  pub methods : All (λ m. m < length (methods_of set.classes)) (cell_targets targets cell.kind cell.entity)
   pub places : FitsKind cell.kind (places_of cell.bits) (length (cell_targets targets cell.kind cell.entity))
 
 -- what a report may be made of: cells of the set, a value and a mark for each place, and first places of cells
 pub record IsReportable (set : SetView) (cells : List Cell) (targets : List (SiteId × List ℕ)) (shown : List ℕ) (values wanted : ℕ) : Type 0 where
-  pub cells : All (IsCellOf set targets) cells
-  pub shown : All (λ p. cell_from cells 0 p ≢ None) shown
-  pub values : values ≡ total_places cells
-  pub wanted : wanted ≡ total_places cells
+  pub of_set : All (IsCellOf set targets) cells
+  pub first_places : All (λ p. cell_from cells 0 p ≢ None) shown
+  pub value_count : values ≡ total_places cells
+  pub mark_count : wanted ≡ total_places cells

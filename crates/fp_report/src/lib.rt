@@ -2,6 +2,6 @@
 #![tactic(auto)]
 
 mod lines;
-mod print;
+mod printing;
 
-pub use print::{PrintFault, print};
+pub use printing::{PrintFault, print};
