@@ -6,6 +6,7 @@ mod class_set;
 mod descriptor;
 mod fault;
 mod kind;
+mod limit;
 mod raw;
 pub mod reading;
 
@@ -16,6 +17,7 @@ pub use class_set::{ClassSet, law_refused, law_sound};
 pub use descriptor::{DescrFault, is_kind, law_one_kind, read_kind};
 pub use fault::FileFault;
 pub use kind::{Descr, Elem, Kind, Sort};
+pub use limit::LimitName;
 pub use raw::attribute::{BootRow, CatchRow, RawAttr, RawBody, RawCode, RawIns};
 pub use raw::pool::{Entry, Pool};
 pub use raw::{Raw, RawMember};

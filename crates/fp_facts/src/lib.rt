@@ -1,0 +1,8 @@
+//! The facts that analyses read.
+#![tactic(auto)]
+
+mod assume;
+mod loaded;
+
+pub use assume::Assume;
+pub use loaded::Loaded;
