@@ -1,2 +1,4 @@
 mod CellLemmas
 mod LineLemmas
+mod ReportLemmas
+mod WordLemmas

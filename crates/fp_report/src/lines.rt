@@ -1,5 +1,5 @@
 //! The lines of a report.
-ghost use Rattle.std.specs.Prelude.{◌≡◌, ◌≢◌, [], ◌+◌, ◌<◌, ◌≤◌, ◌++◌, ◌∷◌, Some, None, length, map, slice_index, unwrap_or, slice_get, string_bytes, All, IfOk, OnOk};
+ghost use Rattle.std.specs.Prelude.{◌≡◌, ◌≢◌, [], ◌+◌, ◌<◌, ◌≤◌, ◌++◌, ◌∷◌, Some, None, length, map, slice_index, unwrap_or, slice_get, string_bytes, All, IfOk, if◌then◌else◌};
 ghost use Rattle.fp_eqs.specs.Solved.{flag_at};
 ghost use Rattle.fp_model.specs.ClassSet.{methods_of};
 ghost use Rattle.std.specs.List.{range_with_len};
@@ -132,20 +132,25 @@ fn end_lines(alloc: Global, lines: Vec<Vec<u8>>) -> Result<Vec<Vec<u8>>, AllocEr
 }
 
 /// How many cells are demanded.
-fn count_demanded(cells: &Cells, wanted: &[bool]) -> u32
+fn count_demanded(cells: &Cells, wanted: &[bool]) -> usize
     requires { length wanted.now ≡ total_places cells.now }
     ensures { result ≡ demanded_from (flag_at wanted.now) 0 cells.now }
 {
     let mut count = 0;
-    let mut first = 0;
+    let mut first = 0usize;
     for i in 0..cells.len() {
         let Some((_, _, bits)) = cells.cell(i) else {
             unreachable!()
         };
-        if wanted[first as usize] {
-            count += 1;
-        }
-        first += count_places(bits);
+        count += one_if(wanted[first]);
+        first += count_places(bits) as usize;
     }
     count
+}
+
+/// 1 for a flag that is set, else 0.
+fn one_if(flag: bool) -> usize
+    ensures { result ≡ (if flag then 1 else 0) }
+{
+    usize::from(flag)
 }

@@ -41,5 +41,8 @@ blames_reading dir file listed before mid now (refusal.Read path) alone below gr
     let gained : Gained before now (Reading (string_bytes path)) = rw is.0 (gained_later before mid now (Reading file) grows is.1) in
     inr (rw (alone, is.0) (0, lit< tt, refl), rw is.0 below, gained)
 blames_reading dir file listed before mid now (refusal.Unbuilt path at) alone below grows is = tt
+blames_reading dir file listed before mid now (refusal.Duplicate name) alone below grows is = tt
 blames_reading dir file listed before mid now (refusal.Cycle name) alone below grows is = tt
+blames_reading dir file listed before mid now (refusal.Selection item) alone below grows is = tt
+blames_reading dir file listed before mid now (refusal.Limit name most) alone below grows is = tt
 blames_reading dir file listed before mid now refusal.Memory alone below grows is = tt

@@ -9,6 +9,7 @@ use Rattle.std.proofs.lemmas.List.Elements.{All-head, All-cons, All-from_recursi
 use Rattle.std.proofs.lemmas.List.{take_all}
 use Rattle.std.proofs.lemmas.Bool.{lt-ltb}
 use Rattle.fp_base.specs.Files.{File, bytes_at, first_bytes, texts, is_class_file}
+use Rattle.fp_words.specs.Words.{Asked}
 use Rattle.fp_top.specs.declared.refusal.Refusal.{Refusal}
 use Rattle.fp_top.specs.declared.refusal.Refusal.TheVariants as refusal
 use Rattle.fp_top.specs.Outcome.{outcome_of_paths, outcome_of_bytes, unbuilt_text}
@@ -39,20 +40,23 @@ below_alone dir listed (Ok file) all alone =
 below_alone dir listed (Err e) all alone = tt
 
 -- another number of paths than one is refused by it
-says_count : (files : List File) (dir : List ℕ) (paths : List (List ℕ)) (r : Refusal) → length paths ≢ 1 → IsUnbuilt dir (length paths) r → Says (outcome_of_paths files dir paths) r
-says_count files dir paths refusal.Usage other is = absurd is
-says_count files dir paths (refusal.Read path) other is = tt
-says_count files dir [] (refusal.Unbuilt path at) other is = rw (is.0, is.1) refl
-says_count files dir (p ∷ []) (refusal.Unbuilt path at) other is = absurd (other refl)
-says_count files dir (p ∷ q ∷ ps) (refusal.Unbuilt path at) other is = rw (is.0, is.1) refl
-says_count files dir paths (refusal.Cycle name) other is = absurd is
-says_count files dir paths refusal.Memory other is = tt
+says_count : (asked : Asked) (files : List File) (dir : List ℕ) (paths : List (List ℕ)) (r : Refusal) → length paths ≢ 1 → IsUnbuilt dir (length paths) r → Says (outcome_of_paths asked files dir paths) r
+says_count asked files dir paths refusal.Usage other is = absurd is
+says_count asked files dir paths (refusal.Read path) other is = tt
+says_count asked files dir [] (refusal.Unbuilt path at) other is = rw (is.0, is.1) refl
+says_count asked files dir (p ∷ []) (refusal.Unbuilt path at) other is = absurd (other refl)
+says_count asked files dir (p ∷ q ∷ ps) (refusal.Unbuilt path at) other is = rw (is.0, is.1) refl
+says_count asked files dir paths (refusal.Duplicate name) other is = absurd is
+says_count asked files dir paths (refusal.Cycle name) other is = absurd is
+says_count asked files dir paths (refusal.Selection item) other is = absurd is
+says_count asked files dir paths (refusal.Limit name most) other is = absurd is
+says_count asked files dir paths refusal.Memory other is = tt
 
-pub refused_count : (tells : Bool) (files : List File) (dir : List ℕ) (told : List (List ℕ)) (paths : List (String Global)) (r : Result (String Global) Refusal) → (IsTrue tells → IsPermutation told (texts paths)) → IfErr r (λ e. (length paths ≢ 1) × IsUnbuilt dir (length paths) e) → IfErr r (λ e. IsTrue tells → Says (outcome_of_paths files dir told) e)
+pub refused_count : (tells : Bool) (files : List File) (dir : List ℕ) (told : List (List ℕ)) (paths : List (String Global)) (r : Result (String Global) Refusal) → (IsTrue tells → IsPermutation told (texts paths)) → IfErr r (λ e. (length paths ≢ 1) × IsUnbuilt dir (length paths) e) → IfErr r (λ e. IsTrue tells → (asked : Asked) → Says (outcome_of_paths asked files dir told) e)
 refused_count tells files dir told paths (Ok file) same is = tt
-refused_count tells files dir told paths (Err e) same is = λ t.
+refused_count tells files dir told paths (Err e) same is = λ t asked.
     let many : length told ≡ length paths = sym (length_permutation told (texts paths) (same t)) ∙ length-texts paths in
-    says_count files dir told e (λ one. is.0 (sym many ∙ one)) (subst (λ n. IsUnbuilt dir n e) (sym many) is.1)
+    says_count asked files dir told e (λ one. is.0 (sym many ∙ one)) (subst (λ n. IsUnbuilt dir n e) (sym many) is.1)
 
 -- a file that was cut at a number of bytes, and has no more than one less, is whole
 cut_short : (most : ℕ) (file : Option (List ℕ)) (bytes : List ℕ) → option_map (take (most + 1)) file ≡ Some bytes → length bytes ≤ most → file ≡ Some bytes
@@ -73,13 +77,16 @@ pub whole_file : (file : Option (List ℕ)) (bytes : List ℕ) → option_map fi
 unfolding first_bytes
 whole_file file bytes is short = cut_short 4194304 file bytes is short
 
-says_long : (path bytes : List ℕ) (r : Refusal) → nat_lt 4194304 (length bytes) ≡ true → IsUnbuilt path 4194304 r → Says (outcome_of_bytes path bytes) r
-says_long path bytes refusal.Usage long is = absurd is
-says_long path bytes (refusal.Read named) long is = tt
-says_long path bytes (refusal.Unbuilt named at) long is = rw (long, is.0, is.1) refl
-says_long path bytes (refusal.Cycle name) long is = absurd is
-says_long path bytes refusal.Memory long is = tt
+says_long : (asked : Asked) (path bytes : List ℕ) (r : Refusal) → nat_lt 4194304 (length bytes) ≡ true → IsUnbuilt path 4194304 r → Says (outcome_of_bytes asked path bytes) r
+says_long asked path bytes refusal.Usage long is = absurd is
+says_long asked path bytes (refusal.Read named) long is = tt
+says_long asked path bytes (refusal.Unbuilt named at) long is = rw (long, is.0, is.1) refl
+says_long asked path bytes (refusal.Duplicate name) long is = absurd is
+says_long asked path bytes (refusal.Cycle name) long is = absurd is
+says_long asked path bytes (refusal.Selection item) long is = absurd is
+says_long asked path bytes (refusal.Limit name most) long is = absurd is
+says_long asked path bytes refusal.Memory long is = tt
 
-pub refused_long : (path : List ℕ) (file : Option (List ℕ)) (bytes : List ℕ) (r : Refusal) → option_map first_bytes file ≡ Some bytes → 4194304 < length bytes → IsUnbuilt path 4194304 r → Says (outcome_of_bytes path (unwrap_or file [])) r
+pub refused_long : (asked : Asked) (path : List ℕ) (file : Option (List ℕ)) (bytes : List ℕ) (r : Refusal) → option_map first_bytes file ≡ Some bytes → 4194304 < length bytes → IsUnbuilt path 4194304 r → Says (outcome_of_bytes asked path (unwrap_or file [])) r
 unfolding first_bytes
-refused_long path file bytes r is long unbuilt = says_long path (unwrap_or file []) r (lt-ltb 4194304 (length (unwrap_or file [])) (cut_long 4194304 file bytes is long)) unbuilt
+refused_long asked path file bytes r is long unbuilt = says_long asked path (unwrap_or file []) r (lt-ltb 4194304 (length (unwrap_or file [])) (cut_long 4194304 file bytes is long)) unbuilt

@@ -24,7 +24,10 @@ no_read_fault None listed before now (refusal.Read path) blames same is = blames
 no_read_fault (Some dir) listed before now (refusal.Read path) (inl listing) same is = gained_none before now _ same listing.1
 no_read_fault (Some dir) listed before now (refusal.Read path) (inr reading) same is = gained_none before now _ same reading.2
 no_read_fault dir listed before now (refusal.Unbuilt path at) blames same is = cc
+no_read_fault dir listed before now (refusal.Duplicate name) blames same is = cc
 no_read_fault dir listed before now (refusal.Cycle name) blames same is = cc
+no_read_fault dir listed before now (refusal.Selection item) blames same is = cc
+no_read_fault dir listed before now (refusal.Limit name most) blames same is = cc
 no_read_fault dir listed before now refusal.Memory blames same is = cc
 
 -- where the told files call for a report, and no call failed, memory ran out
@@ -32,7 +35,10 @@ pub only_memory : (o : Outcome) (dir : Option (List ℕ)) (listed : List (List �
 only_memory o dir listed before now refusal.Usage says blames done same = let wrong : status.Usage ≡ status.Done = sym (ap outcome.status_of says) ∙ done in absurd cc
 only_memory o dir listed before now (refusal.Read path) says blames done same = absurd (no_read_fault dir listed before now (refusal.Read path) blames same refl)
 only_memory o dir listed before now (refusal.Unbuilt path at) says blames done same = let wrong : status.Refused ≡ status.Done = sym (ap outcome.status_of says) ∙ done in absurd cc
+only_memory o dir listed before now (refusal.Duplicate name) says blames done same = let wrong : status.Refused ≡ status.Done = sym (ap outcome.status_of says) ∙ done in absurd cc
 only_memory o dir listed before now (refusal.Cycle name) says blames done same = let wrong : status.Refused ≡ status.Done = sym (ap outcome.status_of says) ∙ done in absurd cc
+only_memory o dir listed before now (refusal.Selection item) says blames done same = let wrong : status.Selection ≡ status.Done = sym (ap outcome.status_of says) ∙ done in absurd cc
+only_memory o dir listed before now (refusal.Limit name most) says blames done same = let wrong : status.Limit ≡ status.Done = sym (ap outcome.status_of says) ∙ done in absurd cc
 only_memory o dir listed before now refusal.Memory says blames done same = inr refl
 
 -- the text of a refusal goes with its status
@@ -40,5 +46,8 @@ pub IsText-refusal : (tells : Bool) (words : List (List ℕ)) (files : List File
 IsText-refusal tells words files refusal.Usage says = refl
 IsText-refusal tells words files (refusal.Read path) says = (string_bytes path, refl)
 IsText-refusal tells words files (refusal.Unbuilt path at) says = λ t. sym (ap outcome.text_of (says t))
+IsText-refusal tells words files (refusal.Duplicate name) says = λ t. sym (ap outcome.text_of (says t))
 IsText-refusal tells words files (refusal.Cycle name) says = λ t. sym (ap outcome.text_of (says t))
+IsText-refusal tells words files (refusal.Selection item) says = λ t. sym (ap outcome.text_of (says t))
+IsText-refusal tells words files (refusal.Limit name most) says = λ t. sym (ap outcome.text_of (says t))
 IsText-refusal tells words files refusal.Memory says = refl

@@ -1,22 +1,34 @@
 -- What a run answers, by its words and by the files that the directory tells.
-use Rattle.std.specs.Prelude.{ℕ, Bool, true, false, ◌||◌, ◌==◌, not, nat_lt, List, [], ◌∷◌, ◌++◌, length, codes, unwrap_or, bit_and, Option, Some, None, Result, Ok, Err, if◌then◌else◌}
-use Rattle.std.specs.List.{list_any, flat_map}
-use Rattle.std.specs.Str.{bytes_eq}
+use Rattle.std.specs.Prelude.{ℕ, nat_lt, List, [], ◌∷◌, ◌++◌, length, codes, unwrap_or, Option, Some, None, Result, Ok, Err, if◌then◌else◌}
+use Rattle.std.specs.List.{flat_map}
 use Rattle.std.specs.Fmt.{decimal}
 use Rattle.fp_base.specs.Files.{File, bytes_at, class_paths}
-use Rattle.fp_base.specs.Escape.{escaped_name}
+use Rattle.fp_base.specs.Names.{with_names}
 use Rattle.fp_model.specs.declared.fault.FileFault.{FileFault}
-use Rattle.fp_model.specs.declared.fault.FileFault.TheVariants as fault
 use Rattle.fp_model.specs.declared.raw.Raw.{Raw}
-use Rattle.fp_model.specs.Thin.{class_of, class_name_at, passes}
+use Rattle.fp_model.specs.declared.limit.LimitName.{LimitName}
+use Rattle.fp_model.specs.declared.limit.LimitName.TheVariants.{Places}
+use Rattle.fp_model.specs.Limits.{limit_name_text}
+use Rattle.fp_model.specs.Thin.{class_of}
+use Rattle.fp_model.specs.Classes.{class_in, raw_names}
+use Rattle.fp_model.specs.ClassSet.{SetView, SetRefusal, refusal_of}
+use Rattle.fp_model.specs.ClassSet.SetRefusal.{Duplicate, SuperCycle}
+use Rattle.fp_eqs.specs.Solution.{solution}
+use Rattle.fp_eqs.specs.Demand.{demand}
+use Rattle.fp_system.specs.Java.{SystemRefusal, java_cells, java_equations, most_places, shown_from, system_refusal}
+use Rattle.fp_system.specs.Java.SystemRefusal.{UnknownAnalysis, UnknownItem, TooManyPlaces}
+use Rattle.fp_report.specs.Report.{report}
+use Rattle.fp_words.specs.Words.{Asked}
 use Rattle.fp_top.specs.declared.status.Status.{Status}
 use Rattle.fp_top.specs.declared.status.Status.TheVariants as status
-use Rattle.fp_top.specs.Words.{directory_of}
+use Rattle.fp_top.specs.Words.{asked_of}
 
 -- a report, line by line, or a refusal with its status and what it writes to err
 pub data Outcome : Type 0 where
   Report : (lines : List (List ℕ)) → Outcome
   Refuse : (status : Status) (text : List ℕ) → Outcome
+
+-- ---- the texts of refusals
 
 abbrev pub usage_text : List ℕ
 usage_text = codes "usage: fpcf --analyses LIST --show LIST --workers N [--assume FILE] [--all] [--cycles] DIR [ROOT]...\nusage: fpcf generate --seed N --classes N --workers N\n"
@@ -25,9 +37,21 @@ usage_text = codes "usage: fpcf --analyses LIST --show LIST --workers N [--assum
 abbrev pub unbuilt_text : List ℕ → ℕ → List ℕ
 unbuilt_text path at = codes "refused: " ++ (path ++ (codes ": unbuilt at " ++ (decimal at ++ codes "\n")))
 
+-- two classes of one escaped name
+abbrev pub duplicate_text : List ℕ → List ℕ
+duplicate_text escaped = codes "refused: duplicate " ++ (escaped ++ codes "\n")
+
 -- a class, by its escaped name, on a cycle of superclasses
 abbrev pub cycle_text : List ℕ → List ℕ
 cycle_text escaped = codes "refused: cycle " ++ (escaped ++ codes "\n")
+
+-- an analysis or a shown item that isn't there
+abbrev pub selection_text : List ℕ → List ℕ
+selection_text item = codes "selection: " ++ (item ++ codes "\n")
+
+-- a bound that is passed, and how much it lets
+abbrev pub limit_text : LimitName → ℕ → List ℕ
+limit_text name most = codes "limit: " ++ (limit_name_text name ++ (codes " " ++ (decimal most ++ codes "\n")))
 
 abbrev pub read_text : List ℕ → List ℕ
 read_text path = codes "read fault: " ++ (path ++ codes "\n")
@@ -38,56 +62,62 @@ write_text = codes "write fault\n"
 abbrev pub memory_text : List ℕ
 memory_text = codes "out of memory\n"
 
--- the name of the class
-abbrev pub name_of : Raw → List ℕ
-name_of raw = unwrap_or (class_name_at raw.pool.entries raw.this) []
+-- ---- the outcome, from the set of classes outwards
 
--- the flags of a field that each object has and that is not final (JVMS SE 21 section 4.5)
-abbrev pub is_open_field : ℕ → Bool
-is_open_field flags = bit_and flags 0x0018 == 0
+-- the report of the least solution of the selected equations, over the demanded cells
+abbrev pub java_report : SetView → Asked → List (List ℕ)
+java_report set asked =
+    let cells = java_cells set.classes in
+    let system = java_equations set asked.analyses asked.show in
+    report set cells [] (shown_from set asked.show 0 cells) (solution system) (demand system)
 
--- the class declares such a field, or has a superclass other than `java/lang/Object`
-abbrev pub is_open : Raw → Bool
-is_open raw =
-    list_any (λ field. is_open_field field.flags) raw.fields
-    || passes (λ name. not (bytes_eq name (codes "java/lang/Object"))) (class_name_at raw.pool.entries raw.parent)
+-- the outcome of a sound set, by why it has no system
+abbrev pub outcome_by : SetView → Asked → Option SystemRefusal → Outcome
+outcome_by set asked (Some (UnknownAnalysis name)) = Refuse status.Selection (selection_text name)
+outcome_by set asked (Some (UnknownItem item)) = Refuse status.Selection (selection_text item)
+outcome_by set asked (Some TooManyPlaces) = Refuse status.Limit (limit_text Places most_places)
+outcome_by set asked None = Report (java_report set asked)
 
--- the class is its own superclass
-abbrev pub is_own_parent : Raw → Bool
-is_own_parent raw = passes (λ name. bytes_eq name (name_of raw)) (class_name_at raw.pool.entries raw.parent)
+abbrev pub outcome_of_sound : SetView → Asked → Outcome
+outcome_of_sound set asked = outcome_by set asked (system_refusal set asked.analyses asked.show)
 
--- the line of the class, and that of the number of cells
-abbrev pub declared_line : List ℕ → Bool → List ℕ
-declared_line name open_ = codes "declared " ++ (escaped_name name ++ (if open_ then codes " open\n" else codes " final\n"))
+-- the outcome of a set of classes, by why it isn't sound
+abbrev pub outcome_of_set : SetView → Asked → Option SetRefusal → Outcome
+outcome_of_set set asked (Some (Duplicate name)) = Refuse status.Refused (duplicate_text name)
+outcome_of_set set asked (Some (SuperCycle name)) = Refuse status.Refused (cycle_text name)
+outcome_of_set set asked None = outcome_of_sound set asked
 
-abbrev pub lines_of : List ℕ → Bool → List (List ℕ)
-lines_of name open_ = declared_line name open_ ∷ (codes "cells 1\n" ∷ [])
+-- the set of the one class of a file, over the table of its texts
+abbrev pub set_of : Raw → SetView
+set_of raw =
+    let names = with_names [] (raw_names raw) in
+    record { classes = class_in names raw ∷ []; names = names }
 
 -- the outcome of a class file
-abbrev pub outcome_of_raw : Raw → Outcome
-outcome_of_raw raw = if is_own_parent raw then Refuse status.Refused (cycle_text (escaped_name (name_of raw))) else Report (lines_of (name_of raw) (is_open raw))
+abbrev pub outcome_of_raw : Asked → Raw → Outcome
+outcome_of_raw asked raw = outcome_of_set (set_of raw) asked (refusal_of (set_of raw))
 
-abbrev pub outcome_of_read : List ℕ → Result Raw FileFault → Outcome
-outcome_of_read path (Ok raw) = outcome_of_raw raw
-outcome_of_read path (Err (fault.Unbuilt at)) = Refuse status.Refused (unbuilt_text path at)
-outcome_of_read path (Err fault.Memory) = Refuse status.Memory memory_text
+-- a file that isn't read yet
+abbrev pub outcome_of_read : Asked → List ℕ → Result Raw FileFault → Outcome
+outcome_of_read asked path (Ok raw) = outcome_of_raw asked raw
+outcome_of_read asked path (Err fault) = Refuse status.Refused (unbuilt_text path 0)
 
 -- the outcome of a file's bytes
-abbrev pub outcome_of_bytes : List ℕ → List ℕ → Outcome
-outcome_of_bytes path bytes = if nat_lt 4194304 (length bytes) then Refuse status.Refused (unbuilt_text path 4194304) else outcome_of_read path (class_of bytes)
+abbrev pub outcome_of_bytes : Asked → List ℕ → List ℕ → Outcome
+outcome_of_bytes asked path bytes = if nat_lt 4194304 (length bytes) then Refuse status.Refused (unbuilt_text path 4194304) else outcome_of_read asked path (class_of bytes)
 
 -- the outcome of the class files below a directory: it is read so far where there is one
-abbrev pub outcome_of_paths : List File → List ℕ → List (List ℕ) → Outcome
-outcome_of_paths files dir (path ∷ []) = outcome_of_bytes path (unwrap_or (bytes_at files path) [])
-outcome_of_paths files dir paths = Refuse status.Refused (unbuilt_text dir (length paths))
+abbrev pub outcome_of_paths : Asked → List File → List ℕ → List (List ℕ) → Outcome
+outcome_of_paths asked files dir (path ∷ []) = outcome_of_bytes asked path (unwrap_or (bytes_at files path) [])
+outcome_of_paths asked files dir paths = Refuse status.Refused (unbuilt_text dir (length paths))
 
-abbrev pub outcome_of_directory : List File → Option (List ℕ) → Outcome
-outcome_of_directory files (Some dir) = outcome_of_paths files dir (class_paths files dir)
-outcome_of_directory files None = Refuse status.Usage usage_text
+abbrev pub outcome_of_run : List File → Option Asked → Outcome
+outcome_of_run files (Some asked) = outcome_of_paths asked files asked.dir (class_paths files asked.dir)
+outcome_of_run files None = Refuse status.Usage usage_text
 
 -- the outcome of words over told files
 abbrev pub outcome : List (List ℕ) → List File → Outcome
-outcome words files = outcome_of_directory files (directory_of words)
+outcome words files = outcome_of_run files (asked_of words)
 
 abbrev pub status_of : Outcome → Status
 status_of (Report lines) = status.Done

@@ -3,11 +3,12 @@ use Rattle.std.specs.Prelude.{◌≡◌, ◌⊎◌, ℕ, Bool, true, List, [], �
 use Rattle.fp_base.specs.Calls.{Call, Gained, Grows}
 use Rattle.fp_base.specs.Calls.Call.{Listing, Reading}
 use Rattle.fp_base.specs.Files.{File, is_class_file}
+use Rattle.fp_words.specs.Words.{Asked}
 use Rattle.fp_top.specs.declared.status.Status.{Status}
 use Rattle.fp_top.specs.declared.status.Status.TheVariants as status
 use Rattle.fp_top.specs.declared.refusal.Refusal.{Refusal}
 use Rattle.fp_top.specs.declared.refusal.Refusal.TheVariants as refusal
-use Rattle.fp_top.specs.Outcome.{Outcome, usage_text, unbuilt_text, cycle_text, read_text, memory_text}
+use Rattle.fp_top.specs.Outcome.{Outcome, usage_text, unbuilt_text, duplicate_text, cycle_text, selection_text, limit_text, read_text, memory_text}
 use Rattle.fp_top.specs.Outcome.Outcome.{Refuse}
 use Rattle.fp_top.specs.Words.{directory_of}
 
@@ -16,15 +17,21 @@ abbrev pub status_of : Refusal → Status
 status_of refusal.Usage = status.Usage
 status_of (refusal.Read path) = status.ReadFault
 status_of (refusal.Unbuilt path at) = status.Refused
+status_of (refusal.Duplicate name) = status.Refused
 status_of (refusal.Cycle name) = status.Refused
+status_of (refusal.Selection item) = status.Selection
+status_of (refusal.Limit name most) = status.Limit
 status_of refusal.Memory = status.Memory
 
--- what it writes to err; the name of a cycle is escaped already
+-- what it writes to err; the names of duplicates and of cycles are escaped already
 abbrev pub text_of : Refusal → List ℕ
 text_of refusal.Usage = usage_text
 text_of (refusal.Read path) = read_text (string_bytes path)
 text_of (refusal.Unbuilt path at) = unbuilt_text (string_bytes path) at
+text_of (refusal.Duplicate escaped) = duplicate_text (string_bytes escaped)
 text_of (refusal.Cycle escaped) = cycle_text (string_bytes escaped)
+text_of (refusal.Selection item) = selection_text (string_bytes item)
+text_of (refusal.Limit name most) = limit_text name most
 text_of refusal.Memory = memory_text
 
 -- a read fault and want of memory say nothing of the outcome
@@ -92,3 +99,9 @@ BlamesIn (Some dir) listed before now r = Blames dir listed before now r
 
 abbrev pub BlamesWords : List (List ℕ) → List (List ℕ) → List Call → List Call → Refusal → Type 0
 BlamesWords words listed before now r = BlamesIn (directory_of words) listed before now r
+
+-- a refusal of words: Usage where they ask for nothing, or want of memory
+abbrev pub IsUsage : Option Asked → Refusal → Type 0
+IsUsage asked refusal.Usage = asked ≡ None
+IsUsage asked refusal.Memory = Unit {0}
+IsUsage asked _ = ⊥

@@ -2,6 +2,7 @@ ghost use Rattle.std.specs.Prelude.{◌≡◌, IfOk, string_bytes};
 ghost use Rattle.fp_top.specs.Refusal as spec;
 
 use crate::status::Status;
+use fp_model::LimitName;
 use std::alloc::{AllocError, Global};
 
 /// Why there is no report.
@@ -13,8 +14,14 @@ pub enum Refusal {
     Read(String),
     /// What is at the path is not read yet, and where: an offset, or how many files there are.
     Unbuilt { path: String, at: u64 },
+    /// Two classes have this escaped name.
+    Duplicate(String),
     /// The class of this escaped name lies on a cycle of superclasses.
     Cycle(String),
+    /// The analysis, or the shown item, isn't there.
+    Selection(String),
+    /// There is more of what is named than the bound lets.
+    Limit(LimitName, u64),
     /// Memory ran out.
     Memory,
 }
@@ -26,7 +33,9 @@ pub fn status_of(refusal: &Refusal) -> Status
     match refusal {
         Refusal::Usage => Status::Usage,
         Refusal::Read(_) => Status::ReadFault,
-        Refusal::Unbuilt { .. } | Refusal::Cycle(_) => Status::Refused,
+        Refusal::Unbuilt { .. } | Refusal::Duplicate(_) | Refusal::Cycle(_) => Status::Refused,
+        Refusal::Selection(_) => Status::Selection,
+        Refusal::Limit(..) => Status::Limit,
         Refusal::Memory => Status::Memory,
     }
 }

@@ -3,5 +3,5 @@ use Rattle.fp_report.specs.Report.{targets_of}
 use Rattle.fp_report.proofs.lines.targets_of.Given as goal
 
 -- the first pair of the site is among those that are left
-abbrev pub invariant-loop : goal.invariant-loop
-invariant-loop l = targets_of l.targets l.site ≡ targets_of (drop l.index l.targets) l.site
+abbrev pub invariant-loop-other : goal.invariant-loop-other
+invariant-loop-other l = targets_of l.targets l.site ≡ targets_of (drop l.other-index l.targets) l.site
