@@ -21,9 +21,22 @@ pub(crate) fn is_run(words: &[String]) -> bool
     ensures { result ≡ is_some (spec.order_of (texts words.now)) }
 {
     match read_options(words) {
-        Some((given, rest)) => !rest.is_empty() && are_plain(rest) && has_each_value(given),
+        Some((given, rest)) => completes(given, rest),
         None => false,
     }
+}
+
+// Whether the words after the options make up a run with them.
+fn completes(given: Given<'_>, rest: &[String]) -> bool
+    ensures { result ≡ is_some (spec.run_of (given_of given.entry) (texts rest.now)) }
+{
+    if rest.is_empty() {
+        return false;
+    }
+    if !are_plain(rest) {
+        return false;
+    }
+    has_each_value(given)
 }
 
 // The options in front of the first plain word, and the words from there on.
