@@ -1,5 +1,5 @@
 -- What the code keeps of the words, read off as bytes.
-use Rattle.std.specs.Prelude.{ℕ, ◌+◌, Bool, ◌&&◌, not, nat_lt, length, is_some, List, [], Option, Some, None, option_map, option_and_then, slice_get, unwrap_or, string_bytes, String}
+use Rattle.std.specs.Prelude.{◌≡◌, ℕ, ◌+◌, Bool, false, ◌&&◌, not, nat_lt, length, is_some, List, [], Option, Some, None, option_map, option_and_then, slice_get, unwrap_or, string_bytes, String}
 use Rattle.std.specs.Borrow.{Bor}
 use Rattle.std.specs.declared.alloc.Global.{Global}
 use Rattle.fp_base.specs.Files.{texts}
@@ -35,3 +35,22 @@ abbrev pub has_values : Given → Bool
 has_values given =
     is_some (option_and_then list_items given.analyses)
     && (is_some (option_and_then list_items given.show) && is_some (option_and_then one_worker given.workers))
+
+-- the run that a job says
+abbrev pub run_of_job : Job → Asked
+run_of_job job = record {
+  dir = string_bytes job.dir;
+  roots = texts job.roots;
+  analyses = texts job.analyses;
+  show = texts job.show;
+  workers = job.workers;
+}
+
+-- an assume file, and more lines than the shown ones, are not asked for
+abbrev pub IsBare : Job → Type 0
+IsBare job = (job.assume ≡ None) × (job.all ≡ false) × (job.cycles ≡ false)
+
+-- an order is one of a run, which is this one
+abbrev pub AsksFor : Order → Option Asked → Type 0
+AsksFor (Run job) asked = (asked ≡ Some (run_of_job job)) × IsBare job
+AsksFor _ asked = ⊥
