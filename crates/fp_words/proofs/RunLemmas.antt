@@ -16,7 +16,7 @@ use Rattle.clap.specs.declared.parser.matches.ArgMatches.{ArgMatches}
 use Rattle.fp_words.specs.Command.{dir_rule, run_app, run_in, value_in}
 use Rattle.fp_words.specs.Lists.{distinct_items, is_empty, items_between, list_items}
 use Rattle.fp_words.specs.Numbers.{workers_of}
-use Rattle.fp_words.specs.Words.{Asked, Given, asked, is_plain, none_given, one_worker, options_of, order_of, run_of, run_with, with_option}
+use Rattle.fp_words.specs.Words.{Given, asked, is_plain, none_given, one_worker, options_of, run_asked, run_of, run_with, with_option}
 use Rattle.fp_words.proofs.CommandLemmas.{same_run}
 use Rattle.fp_words.proofs.OptionLemmas.{Holds, HoldsRun, Name, analyses, show, workers, Names, holds-dir, holds-more, holds-roots, id_of, value_at, with_named, with_option-plain, with_value-names, word_of}
 use Rattle.fp_words.proofs.ReadLemmas.{and_both, after_dir, after_roots, awaiting, between, dir_passes, dir_settles, dir_turn, more_passes, more_turn, option_passes, option_settles, option_turn, root_passes, root_turn, rules, shape, value_passes, value_turn}
@@ -258,7 +258,7 @@ record IsRead (words : List Text) : Type 0 where
   dir : Text
   roots : List Text
   ends : Ends (between [] None) words given dir roots
-  is : order_of words ≡ run_with given dir roots
+  is : run_asked words ≡ run_with given dir roots
   complete : is_some (run_with given dir roots) ≡ true
 
 parts_read : (words : List Text) → length words ≤ usize_max → (parts : Option (Given × List Text)) → options_of none_given words ≡ parts → is_some (option_and_then (λ p. run_of p.0 p.1) parts) ≡ true → IsRead words
@@ -277,7 +277,7 @@ parts_read words few (Some (given, dir ∷ roots)) is e = by_case (list_all is_p
     }
     by_case false plain t = cc
 
-run_read : (words : List Text) → length words ≤ usize_max → is_some (order_of words) ≡ true → IsRead words
+run_read : (words : List Text) → length words ≤ usize_max → is_some (run_asked words) ≡ true → IsRead words
 run_read words few e = parts_read words few (options_of none_given words) refl e
 
 -- what the library asks of the walk's end
@@ -290,7 +290,7 @@ level_passes_from : (last : Walk) (passes : Bool) → last.stopped ≡ None → 
 level_passes_from last passes stopped ok settles = rw (stopped, ok, settles) refl
 
 -- the library takes words of the grammar
-pub takes_run : (app : App) (words : List Text) → app ≡ run_app → length words ≤ usize_max → is_some (order_of words) ≡ true → takes app words ≡ true
+pub takes_run : (app : App) (words : List Text) → app ≡ run_app → length words ≤ usize_max → is_some (run_asked words) ≡ true → takes app words ≡ true
 takes_run app words is few e =
     let read = run_read words few e in
     ap (λ a. takes a words) is
@@ -298,7 +298,7 @@ takes_run app words is few e =
     ∙ level_passes_from read.ends.last (walk_passes shape [] (between [] None) words) read.ends.stopped read.ends.passes read.ends.settles
 
 -- and finds what they ask for
-pub found_run : (app : App) (words : List Text) (found : ArgMatches) → app ≡ run_app → length words ≤ usize_max → is_some (order_of words) ≡ true → HasMatchesOf app words found → order_of words ≡ Some (run_in (rows_of (found_of found)))
+pub found_run : (app : App) (words : List Text) (found : ArgMatches) → app ≡ run_app → length words ≤ usize_max → is_some (run_asked words) ≡ true → HasMatchesOf app words found → run_asked words ≡ Some (run_in (rows_of (found_of found)))
 found_run app words found is few e has =
     let read = run_read words few e in
     let exact : HasMatchesOf run_app words found = subst (λ (a : App). HasMatchesOf a words found) is has in

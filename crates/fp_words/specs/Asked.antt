@@ -1,14 +1,14 @@
 -- What the code keeps of the words, read off as bytes.
-use Rattle.std.specs.Prelude.{◌≡◌, ℕ, ◌+◌, Bool, false, ◌&&◌, not, nat_lt, length, is_some, List, [], Option, Some, None, option_map, option_and_then, slice_get, unwrap_or, string_bytes, String}
+use Rattle.std.specs.Prelude.{ℕ, ◌+◌, Bool, ◌&&◌, not, nat_lt, length, is_some, List, [], Option, Some, None, option_map, option_and_then, slice_get, unwrap_or, string_bytes, String}
 use Rattle.std.specs.Borrow.{Bor}
 use Rattle.std.specs.declared.alloc.Global.{Global}
 use Rattle.fp_base.specs.Files.{texts}
 use Rattle.fp_words.specs.Lists.{list_items}
-use Rattle.fp_words.specs.Words.{Given, Asked, one_worker, is_plain}
+use Rattle.fp_words.specs.Words.{Given, Asked, Run, Generate, RunAsked, one_worker, is_plain}
 use Rattle.fp_words.specs.declared.grammar.Given as code
 use Rattle.fp_words.specs.declared.job.Job.{Job}
 use Rattle.fp_words.specs.declared.job.Order.{Order}
-use Rattle.fp_words.specs.declared.job.Order.TheVariants.{Run, Generate}
+use Rattle.fp_words.specs.declared.job.Order.TheVariants as code-order
 
 -- the word at a place, or no text
 abbrev pub word_at : List (List ℕ) → ℕ → List ℕ
@@ -37,20 +37,19 @@ has_values given =
     && (is_some (option_and_then list_items given.show) && is_some (option_and_then one_worker given.workers))
 
 -- the run that a job says
-abbrev pub run_of_job : Job → Asked
+abbrev pub run_of_job : Job → RunAsked
 run_of_job job = record {
   dir = string_bytes job.dir;
   roots = texts job.roots;
   analyses = texts job.analyses;
   show = texts job.show;
   workers = job.workers;
+  assume = option_map string_bytes job.assume;
+  all = job.all;
+  cycles = job.cycles;
 }
 
--- an assume file, and more lines than the shown ones, are not asked for
-abbrev pub IsBare : Job → Type 0
-IsBare job = (job.assume ≡ None) × (job.all ≡ false) × (job.cycles ≡ false)
-
--- an order is one of a run, which is this one
-abbrev pub AsksFor : Order → Option Asked → Type 0
-AsksFor (Run job) asked = (asked ≡ Some (run_of_job job)) × IsBare job
-AsksFor _ asked = ⊥
+-- what an order asks for
+abbrev pub asked_of : Order → Asked
+asked_of (code-order.Run job) = Run (run_of_job job)
+asked_of (code-order.Generate seed classes workers) = Generate seed classes workers

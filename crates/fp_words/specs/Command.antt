@@ -5,7 +5,7 @@ use Rattle.clap.specs.Walk.{Row, Rule, all_of, first_of}
 use Rattle.clap.specs.Lexer.{usize_max}
 use Rattle.fp_words.specs.Lists.{distinct_items, items_between}
 use Rattle.fp_words.specs.Numbers.{workers_of}
-use Rattle.fp_words.specs.Words.{Asked, asked}
+use Rattle.fp_words.specs.Words.{RunAsked, asked}
 
 -- an option with a value in the next word
 abbrev pub option_rule : List ℕ → Rule
@@ -32,7 +32,7 @@ abbrev pub value_in : List Row → List ℕ → List ℕ
 value_in rows id = unwrap_or (first_of id rows) []
 
 -- the run that the values say
-abbrev pub run_in : List Row → Asked
+abbrev pub run_in : List Row → RunAsked
 run_in rows = asked (value_in rows (codes "dir")) (unwrap_or (all_of (codes "root") rows) [])
     (distinct_items (items_between (value_in rows (codes "analyses"))))
     (distinct_items (items_between (value_in rows (codes "show"))))

@@ -43,23 +43,40 @@ options_of given (word ∷ value ∷ rest) =
 -- ---- what is asked for
 
 -- a run, in bytes
-pub record Asked : Type 0 where
+pub record RunAsked : Type 0 where
   pub dir : List ℕ
   pub roots : List (List ℕ)
   pub analyses : List (List ℕ)
   pub show : List (List ℕ)
   pub workers : ℕ
+  pub assume : Option (List ℕ)
+  pub all : Bool
+  pub cycles : Bool
+
+-- a run, or one over generated class files, for which there are no words yet
+pub data Asked : Type 0 where
+  Run : (run : RunAsked) → Asked
+  Generate : (seed : ℕ) (classes : ℕ) (workers : ℕ) → Asked
 
 -- the number of workers, of which there is one for now
 abbrev pub one_worker : List ℕ → Option ℕ
 one_worker word = option_and_then (λ workers. if workers == 1 then Some workers else None) (workers_of word)
 
 -- a run by its directory, its roots, and its options' values
-abbrev pub asked : List ℕ → List (List ℕ) → List (List ℕ) → List (List ℕ) → ℕ → Asked
-asked dir roots analyses show workers = record { dir = dir; roots = roots; analyses = analyses; show = show; workers = workers }
+abbrev pub asked : List ℕ → List (List ℕ) → List (List ℕ) → List (List ℕ) → ℕ → RunAsked
+asked dir roots analyses show workers = record {
+  dir = dir;
+  roots = roots;
+  analyses = analyses;
+  show = show;
+  workers = workers;
+  assume = None;
+  all = false;
+  cycles = false;
+}
 
 -- the run of these options with a directory and roots: each option is needed
-abbrev pub run_with : Given → List ℕ → List (List ℕ) → Option Asked
+abbrev pub run_with : Given → List ℕ → List (List ℕ) → Option RunAsked
 run_with given dir roots =
     option_and_then (λ analyses. option_and_then (λ show. option_map (λ workers. asked dir roots analyses show workers)
         (option_and_then one_worker given.workers))
@@ -67,10 +84,14 @@ run_with given dir roots =
         (option_and_then list_items given.analyses)
 
 -- the run of these options and the words from the directory on, each of which is plain
-abbrev pub run_of : Given → List (List ℕ) → Option Asked
+abbrev pub run_of : Given → List (List ℕ) → Option RunAsked
 run_of given [] = None
 run_of given (dir ∷ roots) = if list_all is_plain (dir ∷ roots) then run_with given dir roots else None
 
+-- the run that the words ask for, where they are of the grammar
+abbrev pub run_asked : List (List ℕ) → Option RunAsked
+run_asked words = option_and_then (λ parts. run_of parts.0 parts.1) (options_of none_given words)
+
 -- what the words ask for, where they are of the grammar
 abbrev pub order_of : List (List ℕ) → Option Asked
-order_of words = option_and_then (λ parts. run_of parts.0 parts.1) (options_of none_given words)
+order_of words = option_map Run (run_asked words)

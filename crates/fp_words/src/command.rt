@@ -3,10 +3,10 @@ ghost use Rattle.std.specs.Prelude.{◌≡◌, [], is_some, true, false, unwrap_
 ghost use Rattle.clap.specs.Words.{app_of, found_of, rows_of, rule_of, all_of};
 ghost use Rattle.clap.specs.declared.error.kind.ErrorKind.TheVariants.{OutOfMemory};
 ghost use Rattle.fp_base.specs.Files.{texts};
-ghost use Rattle.fp_words.specs.Asked.{run_of_job, IsBare};
+ghost use Rattle.fp_words.specs.Asked.{run_of_job};
 ghost use Rattle.fp_words.specs.Command.{run_app, run_in, root_rule, option_rule};
 ghost use Rattle.fp_words.specs.Command as spec;
-ghost use Rattle.fp_words.specs.Words.{order_of};
+ghost use Rattle.fp_words.specs.Words.{run_asked};
 
 use crate::fault::WordsFault;
 use crate::job::Job;
@@ -22,9 +22,8 @@ use std::alloc::{AllocError, Global};
 /// # Errors
 /// `Memory` where there is no memory for it.
 pub(crate) fn read_run(alloc: Global, words: &[String]) -> Result<Job, WordsFault>
-    requires { is_some (order_of (texts words.now)) ≡ true }
-    ensures run { IfOk result (λ job. order_of (texts words.now) ≡ Some (run_of_job job)) }
-    ensures bare { IfOk result IsBare }
+    requires { is_some (run_asked (texts words.now)) ≡ true }
+    ensures run { IfOk result (λ job. run_asked (texts words.now) ≡ Some (run_of_job job)) }
     ensures memory { IfErr result (λ fault. fault ≡ WordsFault.Memory) }
 {
     let matches = matches_of(alloc, words)?;
@@ -34,8 +33,8 @@ pub(crate) fn read_run(alloc: Global, words: &[String]) -> Result<Job, WordsFaul
 
 // What `clap` finds in words of the grammar.
 fn matches_of<'a>(alloc: Global, words: &'a [String]) -> Result<ArgMatches<'a>, WordsFault>
-    requires { is_some (order_of (texts words.now)) ≡ true }
-    ensures run { IfOk result (λ matches. order_of (texts words.entry.now) ≡ Some (run_in (rows_of (found_of matches)))) }
+    requires { is_some (run_asked (texts words.now)) ≡ true }
+    ensures run { IfOk result (λ matches. run_asked (texts words.entry.now) ≡ Some (run_in (rows_of (found_of matches)))) }
     ensures memory { IfErr result (λ fault. fault ≡ WordsFault.Memory) }
 {
     let command = command(alloc)?;
@@ -88,8 +87,7 @@ fn roots<'a>(alloc: Global) -> Arg<'a>
 
 // The job of the values that were read.
 fn job_of(alloc: Global, matches: &ArgMatches<'_>) -> Result<Job, AllocError>
-    ensures run { IfOk result (λ job. run_of_job job ≡ run_in (rows_of (found_of matches.now))) }
-    ensures bare { IfOk result IsBare }
+    ensures { IfOk result (λ job. run_of_job job ≡ run_in (rows_of (found_of matches.now))) }
 {
     Ok(Job {
         dir: String::from_str(alloc, value_in(matches, "dir"))?,

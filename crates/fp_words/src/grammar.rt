@@ -18,7 +18,7 @@ pub(crate) struct Given<'a> {
 
 /// Whether the words ask for a run. Takes no memory.
 pub(crate) fn is_run(words: &[String]) -> bool
-    ensures { result ≡ is_some (spec.order_of (texts words.now)) }
+    ensures { result ≡ is_some (spec.run_asked (texts words.now)) }
 {
     match read_options(words) {
         Some((given, rest)) => completes(given, rest),

@@ -1,6 +1,6 @@
-ghost use Rattle.std.specs.Prelude.{◌≡◌, None, IfOk, IsErrOf};
+ghost use Rattle.std.specs.Prelude.{◌≡◌, None, Some, IfOk, IsErrOf};
 ghost use Rattle.fp_base.specs.Files.{texts};
-ghost use Rattle.fp_words.specs.Asked.{AsksFor};
+ghost use Rattle.fp_words.specs.Asked.{asked_of};
 ghost use Rattle.fp_words.specs.Words.{order_of};
 
 use crate::command::read_run;
@@ -18,7 +18,7 @@ use std::alloc::Global;
 /// # Errors
 /// `Usage` exactly where the words are not of this grammar. `Memory` where there is no memory to read them.
 pub fn read_words(alloc: Global, words: &[String]) -> Result<Order, WordsFault>
-    ensures order { IfOk result (λ order. AsksFor order (order_of (texts words.now))) }
+    ensures order { IfOk result (λ order. order_of (texts words.now) ≡ Some (asked_of order)) }
     ensures usage { IsErrOf result WordsFault.Usage → order_of (texts words.now) ≡ None }
     ensures usage_exactly { order_of (texts words.now) ≡ None → IsErrOf result WordsFault.Usage }
 {

@@ -5,8 +5,8 @@ use Rattle.fp_words.specs.Numbers.{workers_of}
 use Rattle.fp_words.proofs.CommandLemmas.{same_run}
 use Rattle.fp_words.proofs.command.job_of.Goals as goal
 
-pub returns-clause-run : goal.returns-clause-run
-returns-clause-run c = same_run
+pub returns : goal.returns
+returns c = same_run
     (c.in_ok-from_str.ensures.ok ∙ c.value_in.ensures)
     c.in_ok-roots_in.ensures
     (c.in_ok-list_items.ensures ∙ ap (λ word. distinct_items (items_between word)) c.value_in-2.ensures)
