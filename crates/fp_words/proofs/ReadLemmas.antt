@@ -1,18 +1,16 @@
 -- How the library reads words of the grammar, a word at a time.
-use Rattle.std.proofs.Common.{◌≡◌, ℕ, ◌≤◌, ◌&&◌, ◌==◌, Bool, true, false, not, cond, is_some, Option, Some, None, List, [], ◌∷◌, ◌++◌, length, refl, sym, ap, subst, ◌∙◌, arith}
+use Rattle.std.proofs.Common.{◌≡◌, ℕ, ◌&&◌, ◌==◌, Bool, true, false, not, cond, Option, Some, None, List, [], ◌∷◌, ◌++◌, refl, ap, subst, ◌∙◌}
 use Rattle.std.specs.Prelude.{codes, option_and_then, ◌||◌}
 use Rattle.std.specs.Option.{option_map_or}
 use Rattle.std.proofs.lemmas.Slice.Eq.{bytes_eq-Decides}
-use Rattle.std.specs.List.{fold, list_all}
 use Rattle.std.specs.Str.{bytes_eq}
 use Rattle.clap.specs.Simple.{Shape, built}
 use Rattle.clap.specs.Lexer.{long_of, long_of_rest, short_of, short_of_rest, strip_byte}
 use Rattle.clap.specs.Takes.{bundle_passes, flag_word_passes, other_passes, settle_passes, step_passes, turn_passes}
-use Rattle.clap.specs.Walk.{Held, Row, Rule, Step, Text, Waiting, Walk, after_step, has_row, idle, is_pending, long_or_other, option, plain_word, positional, pushed, settled, settled_rows, short_or_plain, subcommand_or_other, trailing, walked}
+use Rattle.clap.specs.Walk.{Held, Row, Rule, Text, Waiting, Walk, after_step, has_row, idle, is_pending, long_or_other, option, plain_word, positional, pushed, settled, settled_rows, short_or_plain, subcommand_or_other, trailing, walked}
 use Rattle.fp_words.specs.Command.{run_app, dir_rule}
 use Rattle.fp_words.specs.Words.{is_plain}
 use Rattle.fp_words.proofs.OptionLemmas.{Name, analyses, show, workers, id_of, word_of}
-use Rattle.fp_words.proofs.RowLemmas.{entry}
 
 -- what the command is when it is built
 abbrev pub shape : Shape

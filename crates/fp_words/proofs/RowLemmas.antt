@@ -1,11 +1,11 @@
 -- Entries that the library keeps of what it read.
-use Rattle.std.proofs.Common.{◌≡◌, Bool, true, false, ◌||◌, cond, Option, Some, None, List, [], ◌∷◌, ◌++◌, refl, sym, ap, ◌∙◌}
+use Rattle.std.proofs.Common.{◌≡◌, Bool, true, false, ◌||◌, cond, Some, None, List, [], ◌∷◌, ◌++◌, refl, ap, ◌∙◌}
 use Rattle.std.proofs.lemmas.List.{append-nil}
 use Rattle.std.specs.List.{find, fold, list_all}
 use Rattle.std.specs.Str.{bytes_eq}
 use Rattle.clap.proofs.WalkLemmas.{both}
 use Rattle.clap.proofs.SimpleLemmas.{is_nil}
-use Rattle.clap.specs.Walk.{Row, Rule, Text, all_of, at_row, first_of, has_row, is_empty, more_values, with_default, with_values, without, default_rows, reading_by}
+use Rattle.clap.specs.Walk.{Row, Rule, Text, at_row, has_row, is_empty, more_values, with_default, with_values, without, default_rows, reading_by}
 use Rattle.clap.specs.declared.builder.value_parser.Reading.TheVariants.{AsWritten}
 use Rattle.clap.specs.declared.parser.matches.ValueSource.TheVariants.{CommandLine}
 

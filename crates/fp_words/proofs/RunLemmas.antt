@@ -1,5 +1,5 @@
 -- What the library finds in words of the grammar.
-use Rattle.std.proofs.Common.{◌≡◌, ℕ, ◌≤◌, ◌+◌, ◌&&◌, ◌==◌, Bool, true, false, not, cond, is_some, Option, Some, None, List, [], ◌∷◌, ◌++◌, length, refl, sym, ap, ap₂, subst, ◌∙◌, arith}
+use Rattle.std.proofs.Common.{◌≡◌, ℕ, ◌≤◌, ◌&&◌, ◌==◌, Bool, true, false, cond, is_some, Option, Some, None, List, [], ◌∷◌, ◌++◌, length, refl, sym, ap, subst, ◌∙◌, arith}
 use Rattle.std.specs.Prelude.{codes, option_and_then, option_map, slice_get, unwrap_or}
 use Rattle.std.proofs.lemmas.List.{append-nil, append_assoc}
 use Rattle.std.proofs.lemmas.Bool.{le-leb}
@@ -10,15 +10,15 @@ use Rattle.clap.specs.Matches.{found_of}
 use Rattle.clap.specs.Simple.{App, HasMatchesOf, built, entered}
 use Rattle.clap.specs.Takes.{default_passes, entered_passes, is_valid, settle_passes, takes, turn_passes, walk_passes}
 use Rattle.clap.specs.ValueTests.{accepts}
-use Rattle.clap.specs.Walk.{Row, Text, Walk, all_of, finished, first_of, has_row, is_pending, rows_of, settled_rows, walked}
+use Rattle.clap.specs.Walk.{Row, Text, Walk, finished, first_of, has_row, is_pending, rows_of, settled_rows, walked}
 use Rattle.clap.specs.declared.builder.value_parser.ValueParser.TheVariants as vp
 use Rattle.clap.specs.declared.parser.matches.ArgMatches.{ArgMatches}
-use Rattle.fp_words.specs.Command.{dir_rule, run_app, run_in, value_in}
-use Rattle.fp_words.specs.Lists.{distinct_items, is_empty, items_between, list_items}
+use Rattle.fp_words.specs.Command.{dir_rule, run_app, run_in}
+use Rattle.fp_words.specs.Lists.{distinct_items, is_empty, items_between}
 use Rattle.fp_words.specs.Numbers.{workers_of}
 use Rattle.fp_words.specs.Words.{Given, asked, is_plain, none_given, one_worker, options_of, run_asked, run_of, run_with, with_option}
 use Rattle.fp_words.proofs.CommandLemmas.{same_run}
-use Rattle.fp_words.proofs.OptionLemmas.{Holds, HoldsRun, Name, analyses, show, workers, Names, holds-dir, holds-more, holds-roots, id_of, value_at, with_named, with_option-plain, with_value-names, word_of}
+use Rattle.fp_words.proofs.OptionLemmas.{Holds, HoldsRun, Name, analyses, show, workers, Names, holds-dir, holds-more, holds-roots, id_of, value_at, with_named, with_option-plain, with_value-names}
 use Rattle.fp_words.proofs.ReadLemmas.{and_both, after_dir, after_roots, awaiting, between, dir_passes, dir_settles, dir_turn, more_passes, more_turn, option_passes, option_settles, option_turn, root_passes, root_turn, rules, shape, value_passes, value_turn}
 use Rattle.fp_words.proofs.RowLemmas.{entry, first_added, first_use, has_row-other, no_defaults}
 
@@ -140,10 +140,10 @@ option_ends given final more word value rest rows pending dir roots settles h pl
     let kept = settled_rows rules pending rows in
     let absent : has_row (id_of names.name) (settled_rows rules pending rows) ≡ false = h.has names.name ∙ ap is_some names.new in
     let named : Holds (with_named given names.name value) (settled_rows rules (Some (id_of names.name, value ∷ [])) (settled_rows rules pending rows)) =
-        subst (λ (r : List Row). Holds (with_named given names.name value) r) (sym (option_used names.name (settled_rows rules pending rows) value absent)) (holds-more given (settled_rows rules pending rows) names.name value h names.new) in
+    subst (λ (r : List Row). Holds (with_named given names.name value) r) (sym (option_used names.name (settled_rows rules pending rows) value absent)) (holds-more given (settled_rows rules pending rows) names.name value h names.new) in
     let holds : Holds more (settled_rows rules (Some (id_of names.name, value ∷ [])) (settled_rows rules pending rows)) = subst (λ (g : Given). Holds g (settled_rows rules (Some (id_of names.name, value ∷ [])) (settled_rows rules pending rows))) (sym names.added) named in
     let ends : Ends (between (settled_rows rules pending rows) (Some (id_of names.name, value ∷ []))) rest final dir roots =
-        rec (settled_rows rules pending rows) (Some (id_of names.name, value ∷ [])) (option_apart names.name value) (option_settles names.name (settled_rows rules pending rows) value absent) holds in
+    rec (settled_rows rules pending rows) (Some (id_of names.name, value ∷ [])) (option_apart names.name value) (option_settles names.name (settled_rows rules pending rows) value absent) holds in
     one_word (between rows pending) (awaiting (settled_rows rules pending rows) (id_of names.name)) word (value ∷ rest) final dir roots
     (ap (walked rules [] (between rows pending)) names.is ∙ option_turn names.name rows pending)
     (ap (turn_passes shape [] (between rows pending)) names.is ∙ option_passes names.name rows pending settles)
@@ -303,5 +303,5 @@ found_run app words found is few e has =
     let read = run_read words few e in
     let exact : HasMatchesOf run_app words found = subst (λ (a : App). HasMatchesOf a words found) is has in
     let kept : rows_of (found_of found) ≡ read.ends.rows =
-        (exact refl).0 ∙ ap (λ w. finished rules w.held) read.ends.goes ∙ no_defaults rules (settled_rows rules read.ends.last.held.pending read.ends.last.held.rows) refl ∙ read.ends.settled in
+    (exact refl).0 ∙ ap (λ w. finished rules w.held) read.ends.goes ∙ no_defaults rules (settled_rows rules read.ends.last.held.pending read.ends.last.held.rows) refl ∙ read.ends.settled in
     read.is ∙ run_kept read.given read.dir read.roots read.ends.rows read.ends.holds read.complete ∙ ap (λ r. Some (run_in r)) (sym kept)

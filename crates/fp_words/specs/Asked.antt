@@ -1,5 +1,5 @@
 -- What the code keeps of the words, read off as bytes.
-use Rattle.std.specs.Prelude.{ℕ, ◌+◌, Bool, ◌&&◌, not, nat_lt, length, is_some, List, [], Option, Some, None, option_map, option_and_then, slice_get, unwrap_or, string_bytes, String}
+use Rattle.std.specs.Prelude.{ℕ, ◌+◌, Bool, ◌&&◌, not, nat_lt, length, is_some, List, [], option_map, option_and_then, slice_get, unwrap_or, string_bytes, String}
 use Rattle.std.specs.Borrow.{Bor}
 use Rattle.std.specs.declared.alloc.Global.{Global}
 use Rattle.fp_base.specs.Files.{texts}

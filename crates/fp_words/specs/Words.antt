@@ -1,5 +1,5 @@
 -- Which words ask for a run, and for which one.
-use Rattle.std.specs.Prelude.{ℕ, ◌==◌, ◌&&◌, Bool, false, not, is_some, List, [], ◌∷◌, Option, Some, None, option_map, option_and_then, codes, if◌then◌else◌}
+use Rattle.std.specs.Prelude.{ℕ, ◌==◌, Bool, false, not, is_some, List, [], ◌∷◌, Option, Some, None, option_map, option_and_then, codes, if◌then◌else◌}
 use Rattle.std.specs.List.{list_all}
 use Rattle.std.specs.Str.{bytes_eq}
 use Rattle.fp_words.specs.Lists.{list_items}
@@ -79,9 +79,9 @@ asked dir roots analyses show workers = record {
 abbrev pub run_with : Given → List ℕ → List (List ℕ) → Option RunAsked
 run_with given dir roots =
     option_and_then (λ analyses. option_and_then (λ show. option_map (λ workers. asked dir roots analyses show workers)
-        (option_and_then one_worker given.workers))
-        (option_and_then list_items given.show))
-        (option_and_then list_items given.analyses)
+    (option_and_then one_worker given.workers))
+    (option_and_then list_items given.show))
+    (option_and_then list_items given.analyses)
 
 -- the run of these options and the words from the directory on, each of which is plain
 abbrev pub run_of : Given → List (List ℕ) → Option RunAsked

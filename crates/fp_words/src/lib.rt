@@ -14,3 +14,6 @@ pub use job::{Job, Order};
 pub use list::list_items;
 pub use number::{number_between, workers_of};
 pub use read::read_words;
+
+#[cfg(test)]
+mod tests;

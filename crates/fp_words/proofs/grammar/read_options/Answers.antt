@@ -1,8 +1,8 @@
-use Rattle.std.proofs.Common.{◌≡◌, ◌+◌, ◌≤◌, ◌<◌, length, ap, sym, ◌∙◌, true, false, Some, None, arith, rules, refl, drop, option_map}
+use Rattle.std.proofs.Common.{◌≡◌, length, ap, sym, ◌∙◌, true, false, Some, None, arith, rules, option_map}
 use Rattle.std.proofs.lemmas.List.{length-map}
 use Rattle.std.specs.Prelude.{string_bytes}
 use Rattle.fp_base.specs.Files.{texts}
-use Rattle.fp_words.specs.Asked.{given_of, has_option, word_at, parts_of}
+use Rattle.fp_words.specs.Asked.{given_of, has_option, parts_of}
 use Rattle.fp_words.specs.Words.{with_option}
 use Rattle.fp_words.proofs.GrammarLemmas.{option-taken, option-refused, option-here, no_option-here, options-end, texts-from}
 use Rattle.fp_words.proofs.grammar.read_options.Goals as goal

@@ -1,4 +1,4 @@
-use Rattle.std.proofs.Common.{sym, rules, ◌≡◌, true}
+use Rattle.std.proofs.Common.{rules, ◌≡◌, true}
 use Rattle.fp_words.specs.Numbers.{is_numeral}
 use Rattle.fp_words.proofs.NumberLemmas.{too_large}
 use Rattle.fp_words.proofs.number.number_between.Goals as goal
