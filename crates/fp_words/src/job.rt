@@ -27,5 +27,9 @@ pub enum Order {
     /// A run over the class files below a directory.
     Run(Job),
     /// A run over generated class files.
-    Generate { seed: u32, classes: u32, workers: u32 },
+    Generate {
+        seed: u32,
+        classes: u32,
+        workers: u32,
+    },
 }

@@ -1,0 +1,8 @@
+use Rattle.std.proofs.Common.{◌≡◌, drop}
+use Rattle.std.specs.List.{list_all}
+use Rattle.fp_base.specs.Files.{texts}
+use Rattle.fp_words.specs.Words.{is_plain}
+use Rattle.fp_words.proofs.grammar.are_plain.Given as goal
+
+abbrev pub invariant-loop-word : goal.invariant-loop-word
+invariant-loop-word l = list_all is_plain (texts (drop l.word-index l.words)) ≡ list_all is_plain (texts l.words)

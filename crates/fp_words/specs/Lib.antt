@@ -1,0 +1,5 @@
+pub mod Asked
+pub mod Command
+pub mod Lists
+pub mod Numbers
+pub mod Words
