@@ -15,6 +15,7 @@ pub mod ElementTexts
 pub mod EndedNames
 pub mod LongerTables
 pub mod Many
+pub mod OneClass
 pub mod OneKind
 pub mod Readers
 pub mod Soundness

@@ -1,9 +1,9 @@
 -- A text says at most one kind.
-use Rattle.std.proofs.Common.{◌≡◌, ℕ, zero, suc, ◌+◌, ◌<◌, true, false, List, [], ◌∷◌, ◌++◌, Some, None, length, drop, replicate, codes, refl, sym, ap, ◌∙◌, arith, length-append}
-use Rattle.std.specs.Prelude.{◌==◌, nat_le, slice_get, unwrap_or, if◌then◌else◌}
+use Rattle.std.proofs.Common.{◌≡◌, ℕ, zero, suc, ◌+◌, ◌<◌, true, false, cond, List, [], ◌∷◌, ◌++◌, Some, None, length, drop, replicate, codes, refl, sym, ap, ◌∙◌, arith, length-append}
+use Rattle.std.specs.Prelude.{◌==◌, nat_le, slice_get, unwrap_or}
 use Rattle.std.proofs.lemmas.List.{append-nil, append_cancel_right, length-replicate, replicate_more}
 use Rattle.std.proofs.Math.Seq.{drop-append_seam}
-use Rattle.std.proofs.lemmas.Bool.{and_parts, and_right, both_ways, eqb-true}
+use Rattle.std.proofs.lemmas.Bool.{and_parts, and_right, both_ways, eqb-true, ne_eqb}
 use Rattle.std.proofs.lemmas.Bool.Decides.{nat_tests}
 use Rattle.fp_base.specs.Names.{AreDistinct}
 use Rattle.fp_model.specs.declared.kind.Kind.{Kind}
@@ -11,16 +11,17 @@ use Rattle.fp_model.specs.declared.kind.Kind.TheVariants as kind
 use Rattle.fp_model.specs.declared.kind.Elem.{Elem}
 use Rattle.fp_model.specs.declared.kind.Elem.TheVariants as elem
 use Rattle.fp_model.specs.Descriptor.{dimensions, element_text, is_among, is_element, is_field_descriptor, is_proper, kind_text, text_of, IsKindOf}
+use Rattle.fp_model.specs.Classes.{kind_of_element}
 use Rattle.fp_model.proofs.ArrayTypes.{dimensions-other, dimensions-replicate, is_field_descriptor-brackets}
 use Rattle.fp_model.proofs.ElementTexts.{name_parts}
 
 -- ---- a kind by its dimensions and the type of its element
 
-dims_of : Kind → ℕ
+pub dims_of : Kind → ℕ
 dims_of (kind.Array dims element) = dims
 dims_of _ = 0
 
-element_of : Kind → Elem
+pub element_of : Kind → Elem
 element_of (kind.Int letter) = elem.Prim letter
 element_of kind.Long = elem.Prim 74
 element_of kind.Float = elem.Prim 70
@@ -28,9 +29,8 @@ element_of kind.Double = elem.Prim 68
 element_of (kind.Class name) = elem.Class name
 element_of (kind.Array dims element) = element
 
-kind_from : ℕ → Elem → Kind
-kind_from zero (elem.Prim letter) = if letter == 74 then kind.Long else if letter == 70 then kind.Float else if letter == 68 then kind.Double else kind.Int letter
-kind_from zero (elem.Class name) = kind.Class name
+pub kind_from : ℕ → Elem → Kind
+kind_from zero element = kind_of_element element
 kind_from (suc dims) element = kind.Array (suc dims) element
 
 written : (names : List (List ℕ)) (k : Kind) → kind_text names k ≡ replicate (dims_of k) 91 ++ element_text names (element_of k)
@@ -46,7 +46,7 @@ int_letter : (letter : ℕ) → is_among (codes "BCISZ") letter ≡ true → kin
 unfolding kind_from
 int_letter letter proper = grind (arith, nat_tests)
 
-made : (k : Kind) → is_proper k ≡ true → kind_from (dims_of k) (element_of k) ≡ k
+pub made : (k : Kind) → is_proper k ≡ true → kind_from (dims_of k) (element_of k) ≡ k
 unfolding dims_of element_of kind_from
 made (kind.Int letter) proper = int_letter letter proper
 made kind.Long proper = refl
@@ -55,6 +55,12 @@ made kind.Double proper = refl
 made (kind.Class name) proper = refl
 made (kind.Array zero element) proper = absurd cc
 made (kind.Array (suc dims) element) proper = refl
+
+-- a kind by the dimensions that are counted
+pub kind_from-count : (dims : ℕ) (element inner : Elem) → (dims ≡ 0 → element ≡ inner) → cond (dims == 0) (kind_of_element element) (kind.Array dims inner) ≡ kind_from dims inner
+unfolding kind_from
+kind_from-count zero element inner same = ap kind_of_element (same refl)
+kind_from-count (suc dims) element inner same = ap (λ b. cond b (kind_of_element element) (kind.Array (suc dims) inner)) (ne_eqb (suc dims) 0 (λ e. omega arith))
 
 -- ---- the dimensions
 
@@ -74,7 +80,7 @@ no_bracket names dims (elem.Prim letter) passes =
     ] refl
 
 -- what a text says of the parts of its kind
-seen : (names : List (List ℕ)) (text : List ℕ) (k : Kind) → IsKindOf names text k → (dims_of k ≡ dimensions text) × (element_text names (element_of k) ≡ drop (dimensions text) text)
+pub seen : (names : List (List ℕ)) (text : List ℕ) (k : Kind) → IsKindOf names text k → (dims_of k ≡ dimensions text) × (element_text names (element_of k) ≡ drop (dimensions text) text)
 seen names text k is =
     let whole : replicate (dims_of k) 91 ++ element_text names (element_of k) ≡ text = sym (written names k) ∙ is.written in
     let passes : is_field_descriptor (kind_text names k) ≡ true = (and_parts (is_proper k) (is_field_descriptor (kind_text names k)) is.kind).1 in
@@ -89,7 +95,7 @@ seen names text k is =
 -- ---- the type of an element
 
 -- a text that is not empty stands in the table
-stands : (names : List (List ℕ)) (n : ℕ) → 0 < length (text_of names n) → slice_get names n ≡ Some (text_of names n)
+pub stands : (names : List (List ℕ)) (n : ℕ) → 0 < length (text_of names n) → slice_get names n ≡ Some (text_of names n)
 stands names n some =
     elim (slice_get names n) as (λ o. 0 < length (unwrap_or o []) → o ≡ Some (unwrap_or o [])) [
       | Some text ↦ λ _. refl

@@ -1,4 +1,5 @@
 pub mod instr;
+pub mod law;
 
 use crate::kind::{Descr, Kind};
 use instr::Instr;
