@@ -94,11 +94,7 @@ fn len_of_first(text: &[u8]) -> Result<usize, usize>
 fn front(text: &[u8], len: usize) -> &[u8]
     ensures { result.now ≡ take len text.now }
 {
-    if len < text.len() {
-        &text[..len]
-    } else {
-        text
-    }
+    if len < text.len() { &text[..len] } else { text }
 }
 
 /// How many bytes a field descriptor takes at the front of a text.
