@@ -16,6 +16,8 @@ pub mod EndedNames
 pub mod LongerTables
 pub mod Many
 pub mod OneClass
+pub mod MethodParts
+pub mod MethodTypes
 pub mod OneKind
 pub mod Readers
 pub mod Soundness
