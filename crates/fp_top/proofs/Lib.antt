@@ -1,6 +1,6 @@
 mod DecideLemmas
 mod LoadLemmas
-mod ReportLemmas
 mod SetLemmas
 mod TopLemmas
-mod WriteLemmas
+mod SystemLemmas
+mod WordLemmas

@@ -9,7 +9,7 @@ use Rattle.std.proofs.lemmas.List.Elements.{All-head, All-cons, All-from_recursi
 use Rattle.std.proofs.lemmas.List.{take_all}
 use Rattle.std.proofs.lemmas.Bool.{lt-ltb}
 use Rattle.fp_base.specs.Files.{File, bytes_at, first_bytes, texts, is_class_file}
-use Rattle.fp_words.specs.Words.{Asked}
+use Rattle.fp_words.specs.Words.{RunAsked}
 use Rattle.fp_top.specs.declared.refusal.Refusal.{Refusal}
 use Rattle.fp_top.specs.declared.refusal.Refusal.TheVariants as refusal
 use Rattle.fp_top.specs.Outcome.{outcome_of_paths, outcome_of_bytes, unbuilt_text}
@@ -24,7 +24,7 @@ one_from_permutation {X} (x ∷ []) y p =
     ap (λ z. z ∷ []) (sym (All-head (λ z. z ≡ x) y [] (All-permutation (λ z. z ≡ x) (x ∷ []) (y ∷ []) p (All-cons (λ z. z ≡ x) x [] refl none))))
 one_from_permutation (x ∷ x' ∷ xs) y p = let e : length (y ∷ []) ≡ length (x ∷ x' ∷ xs) = length_permutation (x ∷ x' ∷ xs) (y ∷ []) p in absurd (omega (arith, e))
 
-length-texts : (strings : List (String Global)) → length (texts strings) ≡ length strings
+pub length-texts : (strings : List (String Global)) → length (texts strings) ≡ length strings
 length-texts [] = refl
 length-texts (s ∷ strings) = omega (arith, length-texts strings)
 
@@ -40,7 +40,7 @@ below_alone dir listed (Ok file) all alone =
 below_alone dir listed (Err e) all alone = tt
 
 -- another number of paths than one is refused by it
-says_count : (asked : Asked) (files : List File) (dir : List ℕ) (paths : List (List ℕ)) (r : Refusal) → length paths ≢ 1 → IsUnbuilt dir (length paths) r → Says (outcome_of_paths asked files dir paths) r
+says_count : (asked : RunAsked) (files : List File) (dir : List ℕ) (paths : List (List ℕ)) (r : Refusal) → length paths ≢ 1 → IsUnbuilt dir (length paths) r → Says (outcome_of_paths asked files dir paths) r
 says_count asked files dir paths refusal.Usage other is = absurd is
 says_count asked files dir paths (refusal.Read path) other is = tt
 says_count asked files dir [] (refusal.Unbuilt path at) other is = rw (is.0, is.1) refl
@@ -52,7 +52,7 @@ says_count asked files dir paths (refusal.Selection item) other is = absurd is
 says_count asked files dir paths (refusal.Limit name most) other is = absurd is
 says_count asked files dir paths refusal.Memory other is = tt
 
-pub refused_count : (tells : Bool) (files : List File) (dir : List ℕ) (told : List (List ℕ)) (paths : List (String Global)) (r : Result (String Global) Refusal) → (IsTrue tells → IsPermutation told (texts paths)) → IfErr r (λ e. (length paths ≢ 1) × IsUnbuilt dir (length paths) e) → IfErr r (λ e. IsTrue tells → (asked : Asked) → Says (outcome_of_paths asked files dir told) e)
+pub refused_count : (tells : Bool) (files : List File) (dir : List ℕ) (told : List (List ℕ)) (paths : List (String Global)) (r : Result (String Global) Refusal) → (IsTrue tells → IsPermutation told (texts paths)) → IfErr r (λ e. (length paths ≢ 1) × IsUnbuilt dir (length paths) e) → IfErr r (λ e. IsTrue tells → (asked : RunAsked) → Says (outcome_of_paths asked files dir told) e)
 refused_count tells files dir told paths (Ok file) same is = tt
 refused_count tells files dir told paths (Err e) same is = λ t asked.
     let many : length told ≡ length paths = sym (length_permutation told (texts paths) (same t)) ∙ length-texts paths in
@@ -77,7 +77,7 @@ pub whole_file : (file : Option (List ℕ)) (bytes : List ℕ) → option_map fi
 unfolding first_bytes
 whole_file file bytes is short = cut_short 4194304 file bytes is short
 
-says_long : (asked : Asked) (path bytes : List ℕ) (r : Refusal) → nat_lt 4194304 (length bytes) ≡ true → IsUnbuilt path 4194304 r → Says (outcome_of_bytes asked path bytes) r
+says_long : (asked : RunAsked) (path bytes : List ℕ) (r : Refusal) → nat_lt 4194304 (length bytes) ≡ true → IsUnbuilt path 4194304 r → Says (outcome_of_bytes asked path bytes) r
 says_long asked path bytes refusal.Usage long is = absurd is
 says_long asked path bytes (refusal.Read named) long is = tt
 says_long asked path bytes (refusal.Unbuilt named at) long is = rw (long, is.0, is.1) refl
@@ -87,6 +87,6 @@ says_long asked path bytes (refusal.Selection item) long is = absurd is
 says_long asked path bytes (refusal.Limit name most) long is = absurd is
 says_long asked path bytes refusal.Memory long is = tt
 
-pub refused_long : (asked : Asked) (path : List ℕ) (file : Option (List ℕ)) (bytes : List ℕ) (r : Refusal) → option_map first_bytes file ≡ Some bytes → 4194304 < length bytes → IsUnbuilt path 4194304 r → Says (outcome_of_bytes asked path (unwrap_or file [])) r
+pub refused_long : (asked : RunAsked) (path : List ℕ) (file : Option (List ℕ)) (bytes : List ℕ) (r : Refusal) → option_map first_bytes file ≡ Some bytes → 4194304 < length bytes → IsUnbuilt path 4194304 r → Says (outcome_of_bytes asked path (unwrap_or file [])) r
 unfolding first_bytes
 refused_long asked path file bytes r is long unbuilt = says_long asked path (unwrap_or file []) r (lt-ltb 4194304 (length (unwrap_or file [])) (cut_long 4194304 file bytes is long)) unbuilt

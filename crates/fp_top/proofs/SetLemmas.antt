@@ -1,88 +1,26 @@
--- A set of the one class of a file, and what a refusal of it says.
-use Rattle.std.proofs.Common.{◌≡◌, ℕ, ◌+◌, ◌-◌, ◌*◌, ◌<◌, ◌≤◌, ◌^◌, ◌==◌, nat_lt, Bool, true, false, ◌&&◌, ◌||◌, List, [], ◌∷◌, ◌++◌, length, take, drop, Option, Some, None, IsTrue, refl, sym, ap, ap₂, subst, ◌∙◌, length-append, arith}
-use Rattle.std.specs.Prelude.{unwrap_or, option_map, option_and_then, if◌then◌else◌}
+-- The one class of a file as a set.
+use Rattle.std.proofs.Common.{◌≡◌, ℕ, ◌+◌, ◌-◌, ◌*◌, ◌<◌, ◌≤◌, ◌^◌, ◌==◌, Bool, true, false, ◌&&◌, List, [], ◌∷◌, ◌++◌, length, take, drop, Option, Some, None, Result, Ok, Err, IsTrue, refl, sym, ap, subst, ◌∙◌, length-append, arith}
+use Rattle.std.specs.Prelude.{unwrap_or, IfOk, IfErr, OnOk, if◌then◌else◌}
 use Rattle.std.specs.List.{flat_map, list_all, AllZip}
-use Rattle.std.specs.Option.{option_to_list, option_or}
+use Rattle.std.specs.Option.{option_to_list}
 use Rattle.std.proofs.lemmas.Bool.{ltb-true}
-use Rattle.std.proofs.lemmas.Bool.Decides.{nat_tests}
-use Rattle.fp_base.specs.Escape.{escaped_name}
+use Rattle.fp_base.specs.Names.{AreDistinct, with_names}
 use Rattle.fp_model.specs.declared.class.Class.{Class}
 use Rattle.fp_model.specs.declared.class.Field.{Field}
 use Rattle.fp_model.specs.declared.raw.Raw.{Raw}
 use Rattle.fp_model.specs.declared.raw.RawMember.{RawMember}
 use Rattle.fp_model.specs.declared.raw.pool.Entry.{Entry}
-use Rattle.fp_model.specs.Descriptor.{text_of, dimensions, element_names}
+use Rattle.fp_model.specs.Descriptor.{dimensions, element_names}
 use Rattle.fp_model.specs.Thin.{text_at, class_name_at, has_thin_form, is_u2, is_thin_pool, is_bare}
-use Rattle.fp_model.specs.Classes.{IsClassOf, IsFieldOf, raw_names, field_names}
-use Rattle.fp_model.specs.ClassSet.{SetRefusal, AreFew, refusal_of, has_namesake, is_on_cycle, is_number, class_named, comes_back, after_steps, least_text, marked_names}
-use Rattle.fp_model.specs.ClassSet.SetRefusal.{Duplicate, SuperCycle}
-use Rattle.fp_top.specs.Sets.{is_itself}
-
--- ---- one class as a set
-
--- it has no namesake
-no_namesake : (c : Class) → has_namesake (c ∷ []) c ≡ false
-no_namesake c = grind (arith, nat_tests)
-
--- its superclass is in the set where it is the class itself
-itself_named : (c : Class) (parent : ℕ) (same : Bool) → (c.name == parent) ≡ same → is_number 0 (class_named (c ∷ []) parent) ≡ same
-itself_named c parent true is = rw is refl
-itself_named c parent false is = rw is refl
-
-in_itself : (c : Class) (parent : Option ℕ) → is_number 0 (option_and_then (class_named (c ∷ [])) parent) ≡ is_itself c.name parent
-in_itself c None = refl
-in_itself c (Some parent) = itself_named c parent (c.name == parent) refl
-
--- it is on a cycle where it is its own superclass
-own_cycle : (c : Class) → is_on_cycle (c ∷ []) 0 ≡ is_itself c.name c.parent
-unfolding comes_back after_steps
-own_cycle c = in_itself c c.parent
-
--- the refusal of one class, by its two marks
-by_marks : List (List ℕ) → Class → (twice own : Bool) → Option SetRefusal
-by_marks names c twice own = option_or
-    (option_map Duplicate (least_text (marked_names names (c ∷ []) (twice ∷ []))))
-    (option_map SuperCycle (least_text (marked_names names (c ∷ []) (own ∷ []))))
-
-by_own : (names : List (List ℕ)) (c : Class) (own : Bool) → by_marks names c false own ≡ (if own then Some (SuperCycle (escaped_name (text_of names c.name))) else None)
-unfolding by_marks least_text
-by_own names c true = refl
-by_own names c false = refl
-
--- one class is refused where it is its own superclass
-refusal_of-one : (names : List (List ℕ)) (c : Class) → refusal_of (record { classes = c ∷ []; names = names }) ≡ (if is_itself c.name c.parent then Some (SuperCycle (escaped_name (text_of names c.name))) else None)
-unfolding refusal_of by_marks
-refusal_of-one names c = ap₂ (by_marks names c) (no_namesake c) (own_cycle c) ∙ by_own names c (is_itself c.name c.parent)
-
-chosen_twice : (own : Bool) (name text : List ℕ) → (if own then Some (SuperCycle name) else None) ≡ Some (Duplicate text) → ⊥
-chosen_twice true name text is = cc
-chosen_twice false name text is = cc
-
-chosen_own : (own : Bool) (name text : List ℕ) → (if own then Some (SuperCycle name) else None) ≡ Some (SuperCycle text) → (own ≡ true) × (text ≡ name)
-chosen_own true name text is = (refl, cc)
-chosen_own false name text is = absurd cc
-
-chosen_none : (own : Bool) (name : List ℕ) → (if own then Some (SuperCycle name) else None) ≡ None → own ≡ false
-chosen_none true name is = absurd cc
-chosen_none false name is = refl
-
--- one class is no duplicate
-pub refused_twice : (names : List (List ℕ)) (c : Class) (classes : List Class) (text : List ℕ) → classes ≡ c ∷ [] → refusal_of (record { classes = classes; names = names }) ≡ Some (Duplicate text) → ⊥
-refused_twice names c classes text alone is =
-    chosen_twice (is_itself c.name c.parent) (escaped_name (text_of names c.name)) text
-    (sym (refusal_of-one names c) ∙ subst (λ cs. refusal_of (record { classes = cs; names = names }) ≡ Some (Duplicate text)) alone is)
-
--- one class that is refused for a cycle is its own superclass
-pub refused_own : (names : List (List ℕ)) (c : Class) (classes : List Class) (text : List ℕ) → classes ≡ c ∷ [] → refusal_of (record { classes = classes; names = names }) ≡ Some (SuperCycle text) → (is_itself c.name c.parent ≡ true) × (text ≡ escaped_name (text_of names c.name))
-refused_own names c classes text alone is =
-    chosen_own (is_itself c.name c.parent) (escaped_name (text_of names c.name)) text
-    (sym (refusal_of-one names c) ∙ subst (λ cs. refusal_of (record { classes = cs; names = names }) ≡ Some (SuperCycle text)) alone is)
-
--- one class that isn't refused is not its own superclass
-pub not_refused : (names : List (List ℕ)) (c : Class) (classes : List Class) → classes ≡ c ∷ [] → refusal_of (record { classes = classes; names = names }) ≡ None → is_itself c.name c.parent ≡ false
-not_refused names c classes alone is =
-    chosen_none (is_itself c.name c.parent) (escaped_name (text_of names c.name))
-    (sym (refusal_of-one names c) ∙ subst (λ cs. refusal_of (record { classes = cs; names = names }) ≡ None) alone is)
+use Rattle.fp_model.specs.Classes.{IsClassOf, IsFieldOf, class_in, raw_names, field_names}
+use Rattle.fp_model.specs.ClassSet.{SetView, AreFew, refusal_of}
+use Rattle.fp_model.proofs.OneClass.{one_class}
+use Rattle.fp_words.specs.Words.{RunAsked}
+use Rattle.fp_top.specs.declared.refusal.Refusal.{Refusal}
+use Rattle.fp_top.specs.declared.refusal.Refusal.TheVariants as refusal
+use Rattle.fp_top.specs.Outcome.{outcome_of_raw, outcome_of_set, outcome_of_sound, set_of}
+use Rattle.fp_top.specs.Refusal.{Says}
+use Rattle.fp_top.specs.SetRefusal.{IsOfSet}
 
 -- ---- how much a thin file has
 
@@ -164,3 +102,38 @@ AreFew-one names c raw form of =
       fields = omega (arith, few.1, long, length-append c.fields []);
       methods = omega (arith, ap length of.methods, length-append c.methods []);
     }
+
+-- ---- its outcome
+
+-- the set of one class
+abbrev pub alone : List (List ℕ) → Class → SetView
+alone names c = record { classes = c ∷ []; names = names }
+
+-- the set of the class, over the table that it was read into, is that of the file
+set-is : (names : List (List ℕ)) (c : Class) (raw : Raw) → names ≡ with_names [] (raw_names raw) → AreDistinct names → IsClassOf names c raw → alone names c ≡ set_of raw
+set-is names c raw table distinct is =
+    ap (λ (x : Class). alone names x) (one_class names c raw distinct is) ∙ ap (λ (n : List (List ℕ)). alone n (class_in n raw)) table
+
+says-of-set : (asked : RunAsked) (set : SetView) (r : Refusal) → IsOfSet (refusal_of set) r → Says (outcome_of_set set asked (refusal_of set)) r
+says-of-set asked set refusal.Usage is = absurd is
+says-of-set asked set (refusal.Read path) is = tt
+says-of-set asked set (refusal.Unbuilt path at) is = absurd is
+says-of-set asked set (refusal.Duplicate name) is = ap (outcome_of_set set asked) is
+says-of-set asked set (refusal.Cycle name) is = ap (outcome_of_set set asked) is
+says-of-set asked set (refusal.Selection item) is = absurd is
+says-of-set asked set (refusal.Limit name most) is = absurd is
+says-of-set asked set refusal.Memory is = tt
+
+pub judged : (names : List (List ℕ)) (c : Class) (raw : Raw) (result : Result SetView Refusal) → names ≡ with_names [] (raw_names raw) → AreDistinct names → IsClassOf names c raw
+    → IfOk result (λ set. set ≡ alone names c) → OnOk result (refusal_of (alone names c) ≡ None) → IfOk result (λ set. (asked : RunAsked) → outcome_of_raw asked raw ≡ outcome_of_sound set asked)
+judged names c raw (Ok set) table distinct of is sound = λ asked.
+    ap (λ (x : SetView). outcome_of_set x asked (refusal_of x)) (sym (set-is names c raw table distinct of))
+    ∙ ap (outcome_of_set (alone names c) asked) sound
+    ∙ ap (λ (x : SetView). outcome_of_sound x asked) (sym is)
+judged names c raw (Err r) table distinct of is sound = tt
+
+pub refused : (names : List (List ℕ)) (c : Class) (raw : Raw) (result : Result SetView Refusal) → names ≡ with_names [] (raw_names raw) → AreDistinct names → IsClassOf names c raw
+    → IfErr result (λ r. IsOfSet (refusal_of (alone names c)) r) → IfErr result (λ r. (asked : RunAsked) → Says (outcome_of_raw asked raw) r)
+refused names c raw (Ok set) table distinct of is = tt
+refused names c raw (Err r) table distinct of is = λ asked.
+    subst (λ (x : SetView). Says (outcome_of_set x asked (refusal_of x)) r) (set-is names c raw table distinct of) (says-of-set asked (alone names c) r is)

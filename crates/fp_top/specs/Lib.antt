@@ -1,6 +1,6 @@
 pub mod Outcome
 pub mod Refusal
+pub mod Runs
 pub mod SetRefusal
-pub mod Sets
 pub mod Top
 pub mod Words

@@ -18,7 +18,7 @@ use Rattle.fp_eqs.specs.Demand.{demand}
 use Rattle.fp_system.specs.Java.{SystemRefusal, java_cells, java_equations, most_places, shown_from, system_refusal}
 use Rattle.fp_system.specs.Java.SystemRefusal.{UnknownAnalysis, UnknownItem, TooManyPlaces}
 use Rattle.fp_report.specs.Report.{report}
-use Rattle.fp_words.specs.Words.{Asked}
+use Rattle.fp_words.specs.Words.{RunAsked}
 use Rattle.fp_top.specs.declared.status.Status.{Status}
 use Rattle.fp_top.specs.declared.status.Status.TheVariants as status
 use Rattle.fp_top.specs.Words.{asked_of}
@@ -65,24 +65,24 @@ memory_text = codes "out of memory\n"
 -- ---- the outcome, from the set of classes outwards
 
 -- the report of the least solution of the selected equations, over the demanded cells
-abbrev pub java_report : SetView → Asked → List (List ℕ)
+abbrev pub java_report : SetView → RunAsked → List (List ℕ)
 java_report set asked =
     let cells = java_cells set.classes in
     let system = java_equations set asked.analyses asked.show in
     report set cells [] (shown_from set asked.show 0 cells) (solution system) (demand system)
 
 -- the outcome of a sound set, by why it has no system
-abbrev pub outcome_by : SetView → Asked → Option SystemRefusal → Outcome
+abbrev pub outcome_by : SetView → RunAsked → Option SystemRefusal → Outcome
 outcome_by set asked (Some (UnknownAnalysis name)) = Refuse status.Selection (selection_text name)
 outcome_by set asked (Some (UnknownItem item)) = Refuse status.Selection (selection_text item)
 outcome_by set asked (Some TooManyPlaces) = Refuse status.Limit (limit_text Places most_places)
 outcome_by set asked None = Report (java_report set asked)
 
-abbrev pub outcome_of_sound : SetView → Asked → Outcome
+abbrev pub outcome_of_sound : SetView → RunAsked → Outcome
 outcome_of_sound set asked = outcome_by set asked (system_refusal set asked.analyses asked.show)
 
 -- the outcome of a set of classes, by why it isn't sound
-abbrev pub outcome_of_set : SetView → Asked → Option SetRefusal → Outcome
+abbrev pub outcome_of_set : SetView → RunAsked → Option SetRefusal → Outcome
 outcome_of_set set asked (Some (Duplicate name)) = Refuse status.Refused (duplicate_text name)
 outcome_of_set set asked (Some (SuperCycle name)) = Refuse status.Refused (cycle_text name)
 outcome_of_set set asked None = outcome_of_sound set asked
@@ -94,24 +94,24 @@ set_of raw =
     record { classes = class_in names raw ∷ []; names = names }
 
 -- the outcome of a class file
-abbrev pub outcome_of_raw : Asked → Raw → Outcome
+abbrev pub outcome_of_raw : RunAsked → Raw → Outcome
 outcome_of_raw asked raw = outcome_of_set (set_of raw) asked (refusal_of (set_of raw))
 
 -- a file that isn't read yet
-abbrev pub outcome_of_read : Asked → List ℕ → Result Raw FileFault → Outcome
+abbrev pub outcome_of_read : RunAsked → List ℕ → Result Raw FileFault → Outcome
 outcome_of_read asked path (Ok raw) = outcome_of_raw asked raw
 outcome_of_read asked path (Err fault) = Refuse status.Refused (unbuilt_text path 0)
 
 -- the outcome of a file's bytes
-abbrev pub outcome_of_bytes : Asked → List ℕ → List ℕ → Outcome
+abbrev pub outcome_of_bytes : RunAsked → List ℕ → List ℕ → Outcome
 outcome_of_bytes asked path bytes = if nat_lt 4194304 (length bytes) then Refuse status.Refused (unbuilt_text path 4194304) else outcome_of_read asked path (class_of bytes)
 
 -- the outcome of the class files below a directory: it is read so far where there is one
-abbrev pub outcome_of_paths : Asked → List File → List ℕ → List (List ℕ) → Outcome
+abbrev pub outcome_of_paths : RunAsked → List File → List ℕ → List (List ℕ) → Outcome
 outcome_of_paths asked files dir (path ∷ []) = outcome_of_bytes asked path (unwrap_or (bytes_at files path) [])
 outcome_of_paths asked files dir paths = Refuse status.Refused (unbuilt_text dir (length paths))
 
-abbrev pub outcome_of_run : List File → Option Asked → Outcome
+abbrev pub outcome_of_run : List File → Option RunAsked → Outcome
 outcome_of_run files (Some asked) = outcome_of_paths asked files asked.dir (class_paths files asked.dir)
 outcome_of_run files None = Refuse status.Usage usage_text
 

@@ -3,7 +3,7 @@ use Rattle.std.specs.Prelude.{◌≡◌, ◌⊎◌, ℕ, Bool, true, List, [], �
 use Rattle.fp_base.specs.Calls.{Call, Gained, Grows}
 use Rattle.fp_base.specs.Calls.Call.{Listing, Reading}
 use Rattle.fp_base.specs.Files.{File, is_class_file}
-use Rattle.fp_words.specs.Words.{Asked}
+use Rattle.fp_words.specs.Words.{RunAsked}
 use Rattle.fp_top.specs.declared.status.Status.{Status}
 use Rattle.fp_top.specs.declared.status.Status.TheVariants as status
 use Rattle.fp_top.specs.declared.refusal.Refusal.{Refusal}
@@ -101,7 +101,7 @@ abbrev pub BlamesWords : List (List ℕ) → List (List ℕ) → List Call → L
 BlamesWords words listed before now r = BlamesIn (directory_of words) listed before now r
 
 -- a refusal of words: Usage where they ask for nothing, or want of memory
-abbrev pub IsUsage : Option Asked → Refusal → Type 0
+abbrev pub IsUsage : Option RunAsked → Refusal → Type 0
 IsUsage asked refusal.Usage = asked ≡ None
 IsUsage asked refusal.Memory = Unit {0}
 IsUsage asked _ = ⊥

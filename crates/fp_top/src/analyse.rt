@@ -10,13 +10,15 @@ ghost use Rattle.fp_top.specs.Top.{Fits, IsText, IsReadFault};
 
 use crate::decide::decide;
 use crate::refusal::status_of;
+use crate::report::put_report;
 use crate::status::Status;
-use crate::write::{put_lines, tell};
-use fp_base::{ClassDir, Sink, SinkFault};
+use crate::write::tell;
+use fp_base::{ClassDir, Sink};
+use fp_report::PrintFault;
 use std::alloc::Global;
 
-/// Analyses the class file below a directory as the words ask, and writes the report to `out`. A refusal writes one text to
-/// `err` and leaves `out` as it was. The call always returns.
+/// Analyses the class file below a directory as the words ask, and writes the report of the least solution of the selected
+/// equations to `out`. A refusal writes one text to `err` and leaves `out` as it was. The call always returns.
 pub fn analyse_one<D: ClassDir, S: Sink>(
     alloc: Global,
     words: &[String],
@@ -48,13 +50,13 @@ pub fn analyse_one<D: ClassDir, S: Sink>(
     ensures grows { Grows (D.failed dir.old) (D.failed dir.new) }
 {
     match decide(alloc, words, dir) {
-        Ok(lines) => match put_lines(out, &lines) {
+        Ok(run) => match put_report(alloc, &run, out) {
             Ok(()) => Status::Done,
-            Err(SinkFault::Failed) => {
+            Err(PrintFault::Write) => {
                 let _ = err.put(b"write fault\n");
                 Status::WriteFault
             }
-            Err(SinkFault::Memory) => {
+            Err(PrintFault::Memory) => {
                 let _ = err.put(b"out of memory\n");
                 Status::Memory
             }

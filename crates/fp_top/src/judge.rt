@@ -1,43 +1,39 @@
-ghost use Rattle.std.specs.Prelude.{◌≡◌, ◌≤◌, [], ◌∷◌, length, false, IfOk, IfErr, OnOk};
-ghost use Rattle.fp_base.specs.Files.{texts};
-ghost use Rattle.fp_model.specs.Thin.{class_of, IsThin};
-ghost use Rattle.fp_top.specs.Outcome.{outcome_of_read, outcome_of_raw};
-ghost use Rattle.fp_top.specs.Outcome.Outcome.{Report};
+ghost use Rattle.std.specs.Prelude.{◌≡◌, ◌≤◌, None, [], ◌∷◌, length, IfOk, IfErr, OnOk};
 ghost use Rattle.fp_base.specs.Names.{with_names};
+ghost use Rattle.fp_model.specs.Thin.{class_of, IsThin};
 ghost use Rattle.fp_model.specs.Classes.{IsClassOf, raw_names};
-ghost use Rattle.fp_model.specs.ClassSet.{IsClassOver, AreFew};
+ghost use Rattle.fp_model.specs.ClassSet.{IsClassOver, AreFew, refusal_of};
+ghost use Rattle.fp_words.specs.Words.{RunAsked};
+ghost use Rattle.fp_top.specs.Outcome.{outcome_of_read, outcome_of_raw, outcome_of_sound};
 ghost use Rattle.fp_top.specs.Refusal.{Says, IsOfFile};
-ghost use Rattle.fp_top.specs.Sets.{is_itself};
-ghost use Rattle.fp_top.specs.SetRefusal.{IsOfClass};
+ghost use Rattle.fp_top.specs.SetRefusal.{IsOfSet};
 
 use crate::load::unbuilt;
 use crate::refusal::Refusal;
-use crate::report::report_lines;
 use fp_base::{NameFault, Names};
 use fp_class::{read_class, to_class};
 use fp_model::{Class, ClassSet, FileFault, Raw, SetFault};
 use std::alloc::Global;
 
-/// The lines of the report on a file.
-pub fn judge(alloc: Global, path: &str, bytes: &[u8]) -> Result<Vec<String>, Refusal>
+/// The set of the class of a file.
+pub fn judge(alloc: Global, path: &str, bytes: &[u8]) -> Result<ClassSet, Refusal>
     requires { length bytes.now ≤ 4194304 }
-    ensures lines { IfOk result (λ lines. outcome_of_read path.now (class_of bytes.now) ≡ Report (texts lines.items)) }
-    ensures refusal { IfErr result (λ refusal. Says (outcome_of_read path.now (class_of bytes.now)) refusal) }
+    ensures set { IfOk result (λ set. (asked : RunAsked) → outcome_of_read asked path.now (class_of bytes.now) ≡ outcome_of_sound set asked) }
+    ensures refusal { IfErr result (λ refusal. (asked : RunAsked) → Says (outcome_of_read asked path.now (class_of bytes.now)) refusal) }
     ensures own { IfErr result IsOfFile }
 {
-    let raw = match read_class(alloc, bytes) {
-        Ok(raw) => raw,
-        Err(FileFault::Unbuilt { at }) => return Err(unbuilt(alloc, path, at as u64)),
-        Err(FileFault::Memory) => return Err(Refusal::Memory),
-    };
-    judge_raw(alloc, &raw)
+    match read_class(alloc, bytes) {
+        Ok(raw) => judge_raw(alloc, &raw),
+        Err(FileFault::Memory) => Err(Refusal::Memory),
+        Err(_) => Err(unbuilt(alloc, path, 0)),
+    }
 }
 
-/// The lines of the report on a class file that was read.
-fn judge_raw(alloc: Global, raw: &Raw) -> Result<Vec<String>, Refusal>
+/// The set of the class of a file that was read.
+fn judge_raw(alloc: Global, raw: &Raw) -> Result<ClassSet, Refusal>
     requires { IsThin raw.now }
-    ensures lines { IfOk result (λ lines. outcome_of_raw raw.now ≡ Report (texts lines.items)) }
-    ensures refusal { IfErr result (λ refusal. Says (outcome_of_raw raw.now) refusal) }
+    ensures set { IfOk result (λ set. (asked : RunAsked) → outcome_of_raw asked raw.now ≡ outcome_of_sound set asked) }
+    ensures refusal { IfErr result (λ refusal. (asked : RunAsked) → Says (outcome_of_raw asked raw.now) refusal) }
     ensures own { IfErr result IsOfFile }
 {
     let mut names = Names::new(alloc);
@@ -45,14 +41,7 @@ fn judge_raw(alloc: Global, raw: &Raw) -> Result<Vec<String>, Refusal>
         Ok(class) => class,
         Err(refusal) => return Err(refusal),
     };
-    let set = match set_of(alloc, class, names) {
-        Ok(set) => set,
-        Err(refusal) => return Err(refusal),
-    };
-    match report_lines(alloc, &set) {
-        Ok(lines) => Ok(lines),
-        Err(_) => Err(Refusal::Memory),
-    }
+    set_of(alloc, class, names)
 }
 
 /// The class of a file, in numbers of an empty table of names.
@@ -76,15 +65,15 @@ fn set_of(alloc: Global, class: Class, names: Names) -> Result<ClassSet, Refusal
     requires over { IsClassOver names class }
     requires few { AreFew (class ∷ []) }
     ensures set { IfOk result (λ set. set ≡ record { classes = class ∷ []; names = names }) }
-    ensures sound { OnOk result (is_itself class.name class.parent ≡ false) }
-    ensures refusal { IfErr result (λ refusal. IsOfClass names class refusal) }
+    ensures sound { OnOk result (refusal_of (record { classes = class ∷ []; names = names }) ≡ None) }
+    ensures refusal { IfErr result (λ refusal. IsOfSet (refusal_of (record { classes = class ∷ []; names = names })) refusal) }
 {
     let Ok(classes) = Vec::from_array(alloc, [class]) else {
         return Err(Refusal::Memory);
     };
     match ClassSet::build(alloc, classes, names) {
         Ok(set) => Ok(set),
-        Err(SetFault::Duplicate(_)) => unreachable!(),
+        Err(SetFault::Duplicate(name)) => Err(Refusal::Duplicate(name)),
         Err(SetFault::SuperCycle(name)) => Err(Refusal::Cycle(name)),
         Err(SetFault::Memory) => Err(Refusal::Memory),
     }

@@ -7,6 +7,7 @@ mod judge;
 mod load;
 mod refusal;
 mod report;
+mod solve;
 mod status;
 #[cfg(test)]
 mod tests;

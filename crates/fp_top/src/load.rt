@@ -1,6 +1,6 @@
 ghost use Rattle.std.specs.Prelude.{◌≡◌, ◌≢◌, ℕ, ◌≤◌, List, [], ◌∷◌, length, true, Some, IsTrue, IsSome, IfOk, IfErr, string_bytes, unwrap_or};
 ghost use Rattle.fp_base.specs.Files.{texts, bytes_at, class_paths, is_class_file};
-ghost use Rattle.fp_words.specs.Words.{Asked};
+ghost use Rattle.fp_words.specs.Words.{RunAsked};
 ghost use Rattle.fp_top.specs.Outcome.{outcome_of_paths, outcome_of_bytes};
 ghost use Rattle.fp_top.specs.Refusal.{Says, Blames, BlamesReading, IsUnbuilt, IsRead, IsNoUsage, Keeps};
 
@@ -20,7 +20,7 @@ pub fn find_file<D: ClassDir>(alloc: Global, dir: &mut D, path: &str) -> Result<
     ensures listed { IfOk result (λ file. D.listed dir.new ≡ string_bytes file ∷ []) }
     ensures below { IfOk result (λ file. is_class_file path.now (string_bytes file) ≡ true) }
 
-    ensures refusal { IfErr result (λ refusal. IsTrue (D.tells dir.old) → (asked : Asked) → Says (outcome_of_paths asked (D.files dir.old) path.now (class_paths (D.files dir.old) path.now)) refusal) }
+    ensures refusal { IfErr result (λ refusal. IsTrue (D.tells dir.old) → (asked : RunAsked) → Says (outcome_of_paths asked (D.files dir.old) path.now (class_paths (D.files dir.old) path.now)) refusal) }
     ensures worded { IfErr result IsNoUsage }
     ensures blames { IfErr result (λ refusal. Blames path.now (D.listed dir.new) (D.failed dir.old) (D.failed dir.new) refusal) }
 {
@@ -56,7 +56,7 @@ pub fn read_file<D: ClassDir>(alloc: Global, dir: &mut D, path: &str) -> Result<
     ensures bytes { IfOk result (λ bytes. IsTrue (D.tells dir.old) → bytes_at (D.files dir.old) path.now ≡ Some bytes.items) }
     ensures short { IfOk result (λ bytes. length bytes.items ≤ 4194304) }
 
-    ensures refusal { IfErr result (λ refusal. IsTrue (D.tells dir.old) → (asked : Asked) → Says (outcome_of_bytes asked path.now (unwrap_or (bytes_at (D.files dir.old) path.now) [])) refusal) }
+    ensures refusal { IfErr result (λ refusal. IsTrue (D.tells dir.old) → (asked : RunAsked) → Says (outcome_of_bytes asked path.now (unwrap_or (bytes_at (D.files dir.old) path.now) [])) refusal) }
     ensures worded { IfErr result IsNoUsage }
     ensures blames { IfErr result (λ refusal. BlamesReading path.now (D.failed dir.old) (D.failed dir.new) refusal) }
 {
