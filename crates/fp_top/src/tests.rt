@@ -173,6 +173,95 @@ fn refuses_another_number_of_files_than_one_and_a_long_file(rt: HostRuntime) -> 
     Ok(())
 }
 
+/// The words of a run that shows these items.
+fn showing<'a>(analyses: &'a str, show: &'a str) -> [&'a str; 7] {
+    ["--analyses", analyses, "--show", show, "--workers", "1", "d"]
+}
+
+#[test]
+fn shows_what_the_words_select(rt: HostRuntime) -> Result<(), Fail> {
+    let alloc = rt.alloc();
+    let cases: [(&str, &str, Status, &str, &str); 10] = [
+        (
+            "declared",
+            "declared,assign",
+            Status::Done,
+            "assign A.x:I assignable\ndeclared A final\ncells 2\n",
+            "",
+        ),
+        (
+            "declared",
+            "timmut,inst,declared,immut,assign,reach,declared",
+            Status::Done,
+            "assign A.x:I assignable\ndeclared A final\nimmut A mutable\ninst A present\ntimmut A mutable\ncells 5\n",
+            "",
+        ),
+        (
+            "declared,declared",
+            "assign=A.x:I",
+            Status::Done,
+            "assign A.x:I assignable\ncells 1\n",
+            "",
+        ),
+        ("declared", "reach", Status::Done, "cells 0\n", ""),
+        (
+            "declared",
+            "declared=A",
+            Status::Done,
+            "declared A final\ncells 1\n",
+            "",
+        ),
+        (
+            "declared",
+            "declared=B",
+            Status::Selection,
+            "",
+            "selection: declared=B\n",
+        ),
+        ("declared", "nope", Status::Selection, "", "selection: nope\n"),
+        (
+            "declared",
+            "reach=A.x:I,nope",
+            Status::Selection,
+            "",
+            "selection: reach=A.x:I\n",
+        ),
+        ("nope", "none", Status::Selection, "", "selection: nope\n"),
+        ("declared,rta", "none", Status::Selection, "", "selection: rta\n"),
+    ];
+    for (analyses, show, status, out, err) in cases {
+        let files = files(alloc, &["d/A.class"], &A_FINAL)?;
+        let words = showing(analyses, show);
+        let ending = run(&rt, alloc, &words, files, Vec::new(alloc), Vec::new(alloc))?;
+        assert_eq!(rt; ending.status, status);
+        assert_eq!(rt; ending.out.as_slice(), out.as_bytes());
+        assert_eq!(rt; ending.err.as_slice(), err.as_bytes());
+    }
+    Ok(())
+}
+
+#[test]
+fn a_report_that_fails_is_a_first_part(rt: HostRuntime) -> Result<(), Fail> {
+    let alloc = rt.alloc();
+    let cases: [(&[(u32, u32)], &str); 5] = [
+        (&[(0, 0)], ""),
+        (&[(0, 9)], "assign A."),
+        (&[(1, 1)], "assign A.x:I assignable\nd"),
+        (&[(2, 3)], "assign A.x:I assignable\ndeclared A final\ncel"),
+        (&[(2, 99)], "assign A.x:I assignable\ndeclared A final\ncells 2\n"),
+    ];
+    for (failing_puts, out) in cases {
+        let files = files(alloc, &["d/A.class"], &A_FINAL)?;
+        let words = showing("declared", "declared,assign");
+        let puts = Vec::from_slice(alloc, failing_puts)?;
+        let ending = run(&rt, alloc, &words, files, Vec::new(alloc), puts)?;
+        assert_eq!(rt; ending.status, Status::WriteFault);
+        assert_eq!(rt; ending.out.as_slice(), out.as_bytes());
+        assert_eq!(rt; ending.err.as_slice(), b"write fault\n".as_slice());
+    }
+    Ok(())
+}
+
 #[test]
 fn tells_which_call_of_the_outside_failed(rt: HostRuntime) -> Result<(), Fail> {
     let alloc = rt.alloc();
@@ -204,7 +293,7 @@ fn tells_which_call_of_the_outside_failed(rt: HostRuntime) -> Result<(), Fail> {
 #[test]
 fn answers_words_of_no_command_by_the_usage(rt: HostRuntime) -> Result<(), Fail> {
     let alloc = rt.alloc();
-    let cases: [&[&str]; 6] = [
+    let cases: [&[&str]; 7] = [
         &[],
         &[
             "--analyses",
@@ -215,13 +304,23 @@ fn answers_words_of_no_command_by_the_usage(rt: HostRuntime) -> Result<(), Fail>
             "1",
         ],
         &[
-            "--show",
-            "declared",
             "--analyses",
+            "declared",
+            "--show",
+            "declared,",
+            "--workers",
+            "1",
+            "d",
+        ],
+        &[
+            "--analyses",
+            "declared",
+            "--show",
             "declared",
             "--workers",
             "1",
             "d",
+            "A.m()V",
         ],
         &[
             "--analyses",
