@@ -17,6 +17,21 @@ pub solution-rounds : (e : Equations) → solution e ≡ after_rounds e (64 * e.
 unfolding solution
 solution-rounds e = refl
 
+-- once a round changes nothing, no later one does
+pub stays : (e : Equations) (a : ℕ → ℕ) (k : ℕ) → ((p : ℕ) → after_rounds e k p ≡ a p) → ((p : ℕ) → round e a p ≡ a p) → (m : ℕ) → k ≤ m → (p : ℕ) → after_rounds e m p ≡ a p
+stays e a k is same zero le p = ap (λ n. after_rounds e n p) (none k le) ∙ is p
+  where
+    none : (n : ℕ) → n ≤ 0 → 0 ≡ n
+    none n h = omega (arith, h)
+stays e a k is same (suc m) le p =
+    elim (cases_lt m k) [
+      | inl last ↦ ap (λ n. after_rounds e n p) (at_last m k last le) ∙ is p
+      | inr before ↦ ap (λ (f : ℕ → ℕ). round e f p) (λ i q. stays e a k is same m before q i) ∙ same p
+    ]
+  where
+    at_last : (m n : ℕ) → m < n → n ≤ suc m → suc m ≡ n
+    at_last m n below above = omega (arith, below, above)
+
 module _ (e : Equations) (laws : IsMonotone e) where
   -- a task contributes to none but the places of the system
   pub out-past : (t : ℕ) → t < e.tasks → (a : ℕ → ℕ) (p : ℕ) → e.places ≤ p → (e.task t).out a p ≡ 0

@@ -1,5 +1,5 @@
 -- Rounds of demand end in the least demand.
-use Rattle.std.proofs.Common.{◌≡◌, ◌<◌, ◌≤◌, ◌+◌, ◌&&◌, ◌⊎◌, ℕ, Bool, false, IsTrue, refl, sym, ap, subst, inl, inr, arith, zero, suc, add-one}
+use Rattle.std.proofs.Common.{◌≡◌, ◌<◌, ◌≤◌, ◌+◌, ◌&&◌, ◌⊎◌, ℕ, Bool, false, IsTrue, refl, sym, ap, subst, ◌∙◌, inl, inr, arith, zero, suc, add-one}
 use Rattle.std.proofs.lemmas.Bool.{cases_lt}
 use Rattle.fp_eqs.specs.declared.start.Start.{Start}
 use Rattle.fp_eqs.specs.declared.start.Start.TheVariants.{Always, Triggered, Lazy}
@@ -54,6 +54,21 @@ IsSupplied e c = (t : ℕ) → t < e.tasks → IsTrue (is_started e c t) → IsI
 pub demand-rounds : (e : Equations) → demand e ≡ demand_after e (e.places + 1)
 unfolding demand
 demand-rounds e = refl
+
+-- once a round adds no place, no later one does
+pub demand-stays : (e : Equations) (d : ℕ → Bool) (k : ℕ) → ((p : ℕ) → demand_after e k p ≡ d p) → ((p : ℕ) → demand_round e d p ≡ d p) → (m : ℕ) → k ≤ m → (p : ℕ) → demand_after e m p ≡ d p
+demand-stays e d k is same zero le p = ap (λ n. demand_after e n p) (none k le) ∙ is p
+  where
+    none : (n : ℕ) → n ≤ 0 → 0 ≡ n
+    none n h = omega (arith, h)
+demand-stays e d k is same (suc m) le p =
+    elim (cases_lt m k) [
+      | inl last ↦ ap (λ n. demand_after e n p) (at_last m k last le) ∙ is p
+      | inr before ↦ ap (λ (f : ℕ → Bool). demand_round e f p) (λ i q. demand-stays e d k is same m before q i) ∙ same p
+    ]
+  where
+    at_last : (m n : ℕ) → m < n → n ≤ suc m → suc m ≡ n
+    at_last m n below above = omega (arith, below, above)
 
 module _ (e : Equations) (laws : IsMonotone e) where
   pub demand_after-places : (k p : ℕ) → IsTrue (demand_after e k p) → p < e.places

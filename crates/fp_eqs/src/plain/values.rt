@@ -1,4 +1,4 @@
-ghost use Rattle.std.specs.Prelude.{◌≡◌, ◌<◌, ℕ, Contains, IfOk, bit_or, length, slice_index};
+ghost use Rattle.std.specs.Prelude.{◌≡◌, ◌<◌, ℕ, Contains, IfOk, IsTrue, bit_or, length, slice_index};
 ghost use Rattle.fp_eqs.specs.Answers.{bits_of};
 ghost use Rattle.fp_eqs.specs.Solution.{round, solution};
 
@@ -6,7 +6,7 @@ use crate::plain::known::evaluate;
 use crate::system::System;
 use std::alloc::{AllocError, Global};
 
-/// The value of each place at the least solution, by whole rounds from what is fixed.
+/// The value of each place at the least solution, by whole rounds from what is fixed, up to the first that changes nothing.
 pub fn solved_values<S: System>(alloc: Global, system: &S) -> Result<Vec<u64>, AllocError>
     ensures long { IfOk result (λ v. length v.items ≡ (S.equations system.now).places) }
     ensures solution { IfOk result (λ v. slice_index v.items ≡ solution (S.equations system.now)) }
@@ -14,9 +14,19 @@ pub fn solved_values<S: System>(alloc: Global, system: &S) -> Result<Vec<u64>, A
     let mut values = fixed_values(alloc, system)?;
     for _round in 0..64 * u64::from(system.places()) + 1 {
         let next = next_values(alloc, system, &values)?;
+        if are_same(&next, &values) {
+            return Ok(values);
+        }
         values = next;
     }
     Ok(values)
+}
+
+/// Whether two lists hold the same values.
+fn are_same(first: &[u64], second: &[u64]) -> bool
+    ensures { IsTrue result → first.now ≡ second.now }
+{
+    first == second
 }
 
 /// The value that each place starts with.

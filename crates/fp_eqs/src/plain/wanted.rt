@@ -1,4 +1,4 @@
-ghost use Rattle.std.specs.Prelude.{◌≡◌, ◌<◌, ◌&&◌, ◌||◌, ℕ, Contains, IfOk, length, slice_index};
+ghost use Rattle.std.specs.Prelude.{◌≡◌, ◌<◌, ◌&&◌, ◌||◌, ℕ, Contains, IfOk, IsTrue, length, slice_index};
 ghost use Rattle.fp_eqs.specs.Answers.{asked};
 ghost use Rattle.fp_eqs.specs.Demand.{demand, demand_round, is_started};
 ghost use Rattle.fp_eqs.specs.Solution.{solution};
@@ -23,9 +23,19 @@ pub fn wanted_places<S: System>(
     let mut wanted = shown_places(alloc, system)?;
     for _round in 0..u64::from(system.places()) + 1 {
         let next = next_wanted(alloc, system, values, &wanted)?;
+        if are_same(&next, &wanted) {
+            return Ok(wanted);
+        }
         wanted = next;
     }
     Ok(wanted)
+}
+
+/// Whether two lists hold the same flags.
+fn are_same(first: &[bool], second: &[bool]) -> bool
+    ensures { IsTrue result → first.now ≡ second.now }
+{
+    first == second
 }
 
 /// Whether each place is shown.
