@@ -1,5 +1,5 @@
 -- The system of a run over a set of classes: its cells, the equations of the selected analyses, and what is shown.
-use Rattle.std.specs.Prelude.{◌≡◌, ℕ, ◌+◌, ◌-◌, ◌*◌, ◌^◌, ◌==◌, nat_lt, nat_le, Bool, true, false, ◌||◌, not, List, [], ◌∷◌, ◌++◌, length, map, filter, zip, replicate, codes, bit_and, slice_index, Option, Some, None, if◌then◌else◌, string_bytes}
+use Rattle.std.specs.Prelude.{◌≡◌, ℕ, ◌+◌, ◌-◌, ◌*◌, ◌^◌, ◌==◌, nat_lt, nat_le, Bool, true, false, ◌||◌, not, List, [], ◌∷◌, ◌++◌, length, map, replicate, codes, bit_and, slice_index, Option, Some, None, if◌then◌else◌, string_bytes}
 use Rattle.std.specs.List.{list_any, flat_map, range_with_len}
 use Rattle.std.specs.Option.{option_or, option_map}
 use Rattle.std.specs.Str.{bytes_eq}
@@ -12,8 +12,9 @@ use Rattle.fp_cells.specs.Cells.{Cell, places_of, total_places}
 use Rattle.fp_cells.specs.Entities.{kind_text, entity_text}
 use Rattle.fp_eqs.specs.Equations.{Equations, Tasks}
 use Rattle.fp_eqs.specs.Solved.{flag_at}
-use Rattle.fp_system.specs.Declared.{class_tasks, declared_tasks}
+use Rattle.fp_system.specs.ClassEquations.{class_tasks, declared_tasks}
 use Rattle.fp_system.specs.declared.declared.ClassTask.{ClassTask}
+use Rattle.fp_system.specs.Limits.{most_places}
 
 -- the analysis that computes a kind
 abbrev pub analysis_of : KindId → List ℕ
@@ -40,18 +41,23 @@ has_text texts text = list_any (λ other. bytes_eq other text) texts
 abbrev pub is_selected : List (List ℕ) → KindId → Bool
 is_selected analyses k = has_text analyses (analysis_of k)
 
--- ACC_INTERFACE, and neither that nor ACC_ABSTRACT (JVMS SE 21 section 4.1)
+-- the class has none of these access flags (JVMS SE 21 section 4.1)
+abbrev pub lacks : ℕ → Class → Bool
+lacks flags c = bit_and c.flags flags == 0
+
+-- it is no interface: no ACC_INTERFACE
 abbrev pub is_no_interface : Class → Bool
-is_no_interface c = bit_and c.flags 0x0200 == 0
+is_no_interface c = lacks 0x0200 c
 
+-- it is one that has instances: neither ACC_INTERFACE nor ACC_ABSTRACT
 abbrev pub is_concrete : Class → Bool
-is_concrete c = bit_and c.flags 0x0600 == 0
+is_concrete c = lacks 0x0600 c
 
--- a cell of the kind for each class that passes the test, in the order of the classes
-abbrev pub class_cells : KindId → ℕ → (Class → Bool) → List Class → List Cell
-class_cells k bits test classes =
-    map (λ e. record { kind = k; entity = entity.Class e.0; bits = bits })
-    (filter (λ e. test e.1) (zip (range_with_len 0 (length classes)) classes))
+-- a cell of the kind for each class that passes the test, in the order of the classes, the first of which is `first`
+abbrev pub class_cells : KindId → ℕ → (Class → Bool) → (first : ℕ) → List Class → List Cell
+class_cells k bits test first [] = []
+class_cells k bits test first (c ∷ classes) =
+    (if test c then record { kind = k; entity = entity.Class first; bits = bits } ∷ [] else []) ++ class_cells k bits test (first + 1) classes
 
 -- a cell of the kind for each field
 abbrev pub field_cells : KindId → ℕ → List Class → List Cell
@@ -60,11 +66,11 @@ field_cells k bits classes = map (λ id. record { kind = k; entity = entity.Fiel
 -- the cells of a set, kind by kind; the kinds of methods and sites have none so far
 abbrev pub java_cells : List Class → List Cell
 java_cells classes =
-    class_cells kind.Declared 1 (λ c. true) classes
-    ++ (class_cells kind.Inst 1 is_concrete classes
+    class_cells kind.Declared 1 (λ c. true) 0 classes
+    ++ (class_cells kind.Inst 1 is_concrete 0 classes
     ++ (field_cells kind.Assign 1 classes
-    ++ (class_cells kind.Immut 2 is_no_interface classes
-    ++ class_cells kind.Timmut 2 (λ c. true) classes)))
+    ++ (class_cells kind.Immut 2 is_no_interface 0 classes
+    ++ class_cells kind.Timmut 2 (λ c. true) 0 classes)))
 
 -- the word of a place of a cell that has so many bits from that place on, with every bit set
 abbrev pub full_word : ℕ → ℕ
@@ -127,10 +133,6 @@ is_item set item = list_any (λ k. bytes_eq item (kind_text k)) kinds || list_an
 abbrev pub first_failing : (List ℕ → Bool) → List (List ℕ) → Option (List ℕ)
 first_failing test [] = None
 first_failing test (text ∷ texts) = if test text then first_failing test texts else Some text
-
--- the most places that a system may have
-abbrev pub most_places : ℕ
-most_places = 1048576
 
 -- why there is no system: an analysis that isn't there, a shown item that is neither a kind nor a cell, too many places
 pub data SystemRefusal : Type 0 where

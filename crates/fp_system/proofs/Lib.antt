@@ -1,0 +1,3 @@
+mod JavaCellLemmas
+mod MakeLemmas
+mod RowLemmas
