@@ -6,3 +6,4 @@ mod CommandLemmas
 mod OptionLemmas
 mod ReadLemmas
 mod RunLemmas
+mod OrderLemmas
