@@ -1,4 +1,4 @@
-use Rattle.std.proofs.Common.{◌∷◌, [], length, arith, length-append}
+use Rattle.std.proofs.Common.{◌∷◌, [], arith, length-append}
 use Rattle.std.proofs.lemmas.List.Elements.{All-push}
 use Rattle.fp_model.specs.ClassSet.{IsClassOver}
 use Rattle.fp_model.proofs.SmallSets.{fields_more, methods_more}
