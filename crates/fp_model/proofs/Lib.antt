@@ -9,6 +9,7 @@ mod Owners
 mod Pigeonhole
 mod Reaching
 mod Refusals
+mod SmallSets
 mod Tables
 pub mod ArrayTypes
 pub mod ElementTexts

@@ -1,5 +1,5 @@
 -- The class of a file over a table of distinct names is determined.
-use Rattle.std.proofs.Common.{◌≡◌, ℕ, zero, suc, ◌-◌, ◌<◌, true, false, cond, List, [], ◌∷◌, ◌++◌, Option, Some, None, length, take, drop, get_or, map, refl, sym, ap, ap₂, ◌∙◌, arith, length-append}
+use Rattle.std.proofs.Common.{◌≡◌, ℕ, ◌-◌, ◌<◌, true, false, cond, List, [], ◌∷◌, ◌++◌, Option, Some, None, length, take, drop, get_or, map, refl, sym, ap, ap₂, ◌∙◌, arith, length-append}
 use Rattle.std.specs.Prelude.{◌==◌, nat_le, slice_get, unwrap_or, option_and_then, option_map, IfSome, All}
 use Rattle.std.specs.List.{AllZip}
 use Rattle.std.proofs.lemmas.Bool.{and_parts, both_ways, eqb-true}
@@ -22,7 +22,7 @@ use Rattle.fp_model.specs.Thin.{text_at, class_name_at}
 use Rattle.fp_model.specs.ClassSet.{IsFieldOver}
 use Rattle.fp_model.specs.Classes.{class_in, element_in, field_in, kind_in, number_in, IsClassOf, IsFieldOf}
 use Rattle.fp_model.proofs.ElementTexts.{name_parts}
-use Rattle.fp_model.proofs.OneKind.{dims_of, element_of, kind_from, kind_from-count, made, seen, stands}
+use Rattle.fp_model.proofs.OneKind.{element_of, kind_from, kind_from-count, made, seen, stands}
 
 -- ---- a kind
 

@@ -9,6 +9,8 @@ mod duplicates;
 pub mod fault;
 mod index;
 mod readers;
+#[cfg(test)]
+mod tests;
 
 use crate::class::{Class, ClassId};
 use blame::first_marked_name;
