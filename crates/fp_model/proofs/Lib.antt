@@ -15,6 +15,7 @@ pub mod ElementTexts
 pub mod EndedNames
 pub mod LongerTables
 pub mod Many
+pub mod MethodKinds
 pub mod MethodParts
 pub mod MethodTypes
 pub mod OneKind
@@ -23,3 +24,4 @@ pub mod Soundness
 pub mod Steps
 pub mod Stops
 pub mod Takes
+pub mod Taking
