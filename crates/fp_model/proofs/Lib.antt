@@ -17,6 +17,7 @@ pub mod EndedNames
 pub mod LongerTables
 pub mod Many
 pub mod OneClass
+pub mod MethodKinds
 pub mod MethodParts
 pub mod MethodTypes
 pub mod OneKind
@@ -25,3 +26,4 @@ pub mod Soundness
 pub mod Steps
 pub mod Stops
 pub mod Takes
+pub mod Taking
