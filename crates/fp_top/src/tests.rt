@@ -1,5 +1,13 @@
+ghost use Rattle.std.specs.Prelude.{◌≡◌, [], IfOk};
+ghost use Rattle.fp_model.specs.ClassSet.{IsClassOver};
+
+use crate::report::put_report;
+use crate::solve::solve;
+use crate::words::job_of;
 use crate::{Status, analyse_one};
-use fp_base::{MemDir, MemSink, has_distinct_calls, has_distinct_paths};
+use fp_base::{MemDir, MemSink, Names, has_distinct_calls, has_distinct_paths};
+use fp_model::{Class, ClassSet};
+use sqlite_items::Items;
 use std::alloc::{AllocError, Global};
 use std::process::Abort;
 use std::test::Fail;
@@ -237,6 +245,50 @@ fn shows_what_the_words_select(rt: HostRuntime) -> Result<(), Fail> {
         assert_eq!(rt; ending.out.as_slice(), out.as_bytes());
         assert_eq!(rt; ending.err.as_slice(), err.as_bytes());
     }
+    Ok(())
+}
+
+/// A class without members.
+fn class(alloc: Global, names: &Names, name: &[u8], parent: &[u8]) -> Result<Class, Fail>
+    ensures over { IfOk result (IsClassOver names.now) }
+    ensures fields { IfOk result (λ class. class.fields ≡ []) }
+    ensures methods { IfOk result (λ class. class.methods ≡ []) }
+{
+    let name = names.find(name).ok_or("no name")?;
+    let parent = names.find(parent).ok_or("no name")?;
+    Ok(Class {
+        name,
+        parent: Some(parent),
+        interfaces: Items::new(alloc),
+        flags: 0,
+        fields: Items::new(alloc),
+        methods: Items::new(alloc),
+    })
+}
+
+/// Three classes, of which the first extends the second, and that the third, which extends a class of no file.
+fn three_classes(alloc: Global) -> Result<ClassSet, Fail> {
+    let mut names = Names::new(alloc);
+    for text in [b"b/C".as_slice(), b"B", b"a.A", b"q/Ext"] {
+        names.intern(alloc, text)?;
+    }
+    let first = class(alloc, &names, b"b/C", b"B")?;
+    let second = class(alloc, &names, b"B", b"a.A")?;
+    let third = class(alloc, &names, b"a.A", b"q/Ext")?;
+    let classes = Vec::from_array(alloc, [first, second, third])?;
+    Ok(ClassSet::build(alloc, classes, names)?)
+}
+
+#[test]
+fn the_lines_of_classes_stand_in_the_order_of_their_bytes(rt: HostRuntime) -> Result<(), Fail> {
+    let alloc = rt.alloc();
+    let words = texts(alloc, &showing("declared", "immut=B,declared,inst=b/C"))?;
+    let job = job_of(alloc, &words).ok().ok_or("no job")?;
+    let run = solve(alloc, three_classes(alloc)?, job).ok().ok_or("no run")?;
+    let mut out = MemSink::new(alloc, Vec::new(alloc));
+    assert_eq!(rt; put_report(alloc, &run, &mut out), Ok(()));
+    let wanted = "declared B open\ndeclared a\\x2eA open\ndeclared b/C open\nimmut B mutable\ninst b/C present\ncells 5\n";
+    assert_eq!(rt; out.bytes(), wanted.as_bytes());
     Ok(())
 }
 
