@@ -1,3 +1,5 @@
 mod JavaCellLemmas
 mod MakeLemmas
 mod RowLemmas
+mod StartLemmas
+mod TextLemmas

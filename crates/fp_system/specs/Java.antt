@@ -125,9 +125,13 @@ java_equations set analyses show =
 abbrev pub kinds : List KindId
 kinds = kind.Declared ∷ kind.Inst ∷ kind.Reach ∷ kind.Callees ∷ kind.Assign ∷ kind.Immut ∷ kind.Timmut ∷ kind.Fresh ∷ kind.Leak ∷ kind.Escape ∷ kind.Purity ∷ []
 
+-- the text is the name of a kind
+abbrev pub is_kind_text : List ℕ → Bool
+is_kind_text text = list_any (λ k. bytes_eq text (kind_text k)) kinds
+
 -- the item is a kind, or names a cell
 abbrev pub is_item : SetView → List ℕ → Bool
-is_item set item = list_any (λ k. bytes_eq item (kind_text k)) kinds || list_any (λ cell. shows set cell item) (java_cells set.classes)
+is_item set item = is_kind_text item || list_any (λ cell. shows set cell item) (java_cells set.classes)
 
 -- the first text that fails a test
 abbrev pub first_failing : (List ℕ → Bool) → List (List ℕ) → Option (List ℕ)

@@ -92,3 +92,18 @@ impl Analysis for DeclaredTasks {
         evaluate(self.rows.as_slice()[task as usize], ask, give)
     }
 }
+
+#[cfg(test)]
+mod tests {
+    use super::*;
+
+    fn count_tasks<X: Analysis>(analysis: &X) -> u32 {
+        analysis.tasks()
+    }
+
+    #[test]
+    fn where_no_class_is_there_is_no_task(rt: HostRuntime) {
+        let none = DeclaredTasks::none(rt.alloc(), 3);
+        assert_eq!(rt; count_tasks(&none), 0);
+    }
+}

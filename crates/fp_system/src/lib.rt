@@ -2,10 +2,17 @@
 #![tactic(auto)]
 
 mod cells;
+mod check;
 mod declared;
 mod evaluate;
+mod fault;
+mod fixed;
 mod limits;
 mod rows;
+mod system;
+mod texts;
 
 pub use declared::{ClassTask, DeclaredTasks};
+pub use fault::SystemFault;
 pub use limits::check_limits;
+pub use system::JavaSystem;

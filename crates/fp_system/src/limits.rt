@@ -33,10 +33,19 @@ mod tests {
     use super::*;
 
     #[test]
-    fn each_bound_is_the_last_that_passes() {
-        prove!(check_limits(1_048_576, 16_777_216, 16_777_216).is_ok());
-        prove!(check_limits(1_048_577, 16_777_217, 0) == Err((LimitName::Places, 1_048_576)));
-        prove!(check_limits(0, 16_777_217, 16_777_217) == Err((LimitName::Uses, 16_777_216)));
-        prove!(check_limits(0, 0, 16_777_217) == Err((LimitName::Gives, 16_777_216)));
+    fn each_bound_is_the_last_that_passes(rt: HostRuntime) {
+        assert_eq!(rt; check_limits(1_048_576, 16_777_216, 16_777_216), Ok(()));
+        assert_eq!(rt;
+            check_limits(1_048_577, 16_777_217, 0),
+            Err((LimitName::Places, 1_048_576))
+        );
+        assert_eq!(rt;
+            check_limits(0, 16_777_217, 16_777_217),
+            Err((LimitName::Uses, 16_777_216))
+        );
+        assert_eq!(rt;
+            check_limits(0, 0, 16_777_217),
+            Err((LimitName::Gives, 16_777_216))
+        );
     }
 }

@@ -1,0 +1,81 @@
+//! Which words name nothing.
+ghost use Rattle.std.specs.Prelude.{◌≡◌, ◌||◌, Some, None, is_some, string_bytes, IfErr, OnOk};
+ghost use Rattle.fp_base.specs.Files.{texts};
+ghost use Rattle.fp_base.specs.Names.{has_name};
+ghost use Rattle.fp_system.specs.Faults.{TellsAnalysis, TellsItem};
+ghost use Rattle.fp_system.specs.Java.{first_failing, is_analysis, is_kind_text};
+
+use crate::fault::SystemFault;
+use fp_base::Names;
+use fp_cells::{KindId, kind_text};
+use std::alloc::Global;
+
+/// The analyses that there are.
+const DECLARED: &[u8] = b"declared";
+
+/// Refuses the first name that is no analysis.
+pub fn check_analyses(names: &[String]) -> Result<(), SystemFault>
+    ensures accepted { OnOk result (first_failing is_analysis (texts names.now) ≡ None) }
+    ensures refused { IfErr result (TellsAnalysis (first_failing is_analysis (texts names.now))) }
+{
+    for name in names {
+        if name.as_bytes() != DECLARED {
+            return Err(unknown_analysis(name));
+        }
+    }
+    Ok(())
+}
+
+fn unknown_analysis(name: &String) -> SystemFault
+    ensures { TellsAnalysis (Some (string_bytes name.now)) result }
+{
+    match name.clone() {
+        Ok(name) => SystemFault::Analysis(name),
+        Err(_) => SystemFault::Memory,
+    }
+}
+
+/// Refuses the first item that is neither a kind nor among those that were found.
+pub fn check_items(items: &[String], found: &Names) -> Result<(), SystemFault>
+    ensures accepted { OnOk result (first_failing (λ item. is_kind_text item || has_name found.now item) (texts items.now) ≡ None) }
+    ensures refused { IfErr result (TellsItem (first_failing (λ item. is_kind_text item || has_name found.now item) (texts items.now))) }
+{
+    for item in items {
+        if !is_known(item.as_bytes(), found) {
+            return Err(unknown_item(item));
+        }
+    }
+    Ok(())
+}
+
+fn is_known(item: &[u8], found: &Names) -> bool
+    ensures { result ≡ (is_kind_text item.now || has_name found.now item.now) }
+{
+    names_kind(item) || found.find(item).is_some()
+}
+
+fn unknown_item(item: &String) -> SystemFault
+    ensures { TellsItem (Some (string_bytes item.now)) result }
+{
+    match item.clone() {
+        Ok(item) => SystemFault::Show(item),
+        Err(_) => SystemFault::Memory,
+    }
+}
+
+// Whether the text is the name of a kind.
+fn names_kind(text: &[u8]) -> bool
+    ensures { result ≡ is_kind_text text.now }
+{
+    text == kind_text(KindId::Declared)
+        || text == kind_text(KindId::Inst)
+        || text == kind_text(KindId::Reach)
+        || text == kind_text(KindId::Callees)
+        || text == kind_text(KindId::Assign)
+        || text == kind_text(KindId::Immut)
+        || text == kind_text(KindId::Timmut)
+        || text == kind_text(KindId::Fresh)
+        || text == kind_text(KindId::Leak)
+        || text == kind_text(KindId::Escape)
+        || text == kind_text(KindId::Purity)
+}

@@ -1,0 +1,29 @@
+//! Tables of the texts of words.
+ghost use Rattle.std.specs.Prelude.{◌≡◌, List, ℕ, IfOk, OnOk};
+ghost use Rattle.fp_base.specs.Files.{texts};
+ghost use Rattle.fp_base.specs.Names.{has_name, with_name};
+ghost use Rattle.fp_system.specs.Java.{has_text};
+
+use fp_base::Names;
+use std::alloc::{AllocError, Global};
+
+/// The texts of words, to look them up.
+pub fn index_texts(alloc: Global, words: &[String]) -> Result<Names, AllocError>
+    ensures { IfOk result (λ names. (text : List ℕ) → has_name names text ≡ has_text (texts words.now) text) }
+{
+    let mut names = Names::new(alloc);
+    for word in words {
+        add_text(alloc, word.as_bytes(), &mut names)?;
+    }
+    Ok(names)
+}
+
+/// Adds a text. A table that is full is taken for want of memory.
+pub fn add_text(alloc: Global, text: &[u8], names: &mut Names) -> Result<(), AllocError>
+    ensures { OnOk result (names.new ≡ with_name names.old text.now) }
+{
+    match names.intern(alloc, text) {
+        Ok(_) => Ok(()),
+        Err(_) => Err(AllocError),
+    }
+}
