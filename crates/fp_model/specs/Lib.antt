@@ -1,3 +1,4 @@
+pub mod Branches
 pub mod Classes
 pub mod ClassSet
 pub mod Decoding

@@ -1,2 +1,3 @@
 mod Loops
 mod Spelled
+mod Walking

@@ -1,11 +1,13 @@
 //! Decodes instructions, and tells the form of each (JVMS SE 21 chapter 6).
 #![tactic(auto)]
 
+mod branches;
 mod constants;
 mod forms;
 mod operands;
 mod reading;
 mod switches;
 
+pub use branches::check_targets;
 pub use forms::operands_of;
 pub use reading::decode;
