@@ -120,10 +120,12 @@ fn leads_to_starts(marks: &[bool], pc: u32, ins: &RawIns) -> bool
         Form::Branch(2) => is_start(marks, near(pc, args)),
         Form::Branch(_) => is_start(marks, far(pc, args, 0)),
         Form::TableSwitch => {
-            is_start(marks, far(pc, args, 0)) && all_starts(marks, pc, 4, args, args.len().saturating_sub(12) / 4)
+            is_start(marks, far(pc, args, 0))
+                && all_starts(marks, pc, 4, args, args.len().saturating_sub(12) / 4)
         }
         Form::LookupSwitch => {
-            is_start(marks, far(pc, args, 0)) && all_starts(marks, pc, 8, args, args.len().saturating_sub(8) / 8)
+            is_start(marks, far(pc, args, 0))
+                && all_starts(marks, pc, 8, args, args.len().saturating_sub(8) / 8)
         }
         _ => true,
     }

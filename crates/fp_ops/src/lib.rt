@@ -11,3 +11,6 @@ mod switches;
 pub use branches::check_targets;
 pub use forms::operands_of;
 pub use reading::decode;
+
+#[cfg(test)]
+mod tests;

@@ -18,7 +18,7 @@ loop-left-preserved c =
     record {
       at = grind arith;
       rest = sym (far_targets-next c.args.pc c.args.step c.args.args.now c.args.count c.loop-left._left c.loop-left.at (is_marked c.args.marks.now) c.loop-left-test.true
-        ∙ and_true _ _ passed) ∙ c.loop-left.invariant.rest;
+          ∙ and_true _ _ passed) ∙ c.loop-left.invariant.rest;
     }
 
 pub returns : goal.returns

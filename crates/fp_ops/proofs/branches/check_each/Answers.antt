@@ -15,7 +15,7 @@ returns-then-not-leads_to_starts c =
     let fails : leads_to (starts_at 0 c.args.code.now) (c.loop-ins.next - c.args.at) c.ins-item.result ≡ false = cc in
     sym c.loop-ins.invariant.rest
     ∙ each_err spelled_ins (λ at ins. demanded (leads_to (starts_at 0 c.args.code.now) (at - c.args.at) ins) (fault.Bounds at)) c.loop-ins.next c.args.code.now c.loop-ins.ins-index c.ins-item.result (fault.Bounds c.loop-ins.next) c.loop-ins-test.true c.ins-item.is
-      (ap (λ passed. demanded passed (fault.Bounds c.loop-ins.next)) fails)
+    (ap (λ passed. demanded passed (fault.Bounds c.loop-ins.next)) fails)
 
 pub loop-ins-preserved : goal.loop-ins-preserved
 loop-ins-preserved c =
@@ -25,7 +25,7 @@ loop-ins-preserved c =
       within = omega arith;
       at = omega (arith, left_size c.args.code.now c.loop-ins.ins-index c.ins-item.result c.loop-ins-test.true c.ins-item.is);
       rest = rw c.size-next.ensures (sym (each_next spelled_ins (λ at ins. demanded (leads_to (starts_at 0 c.args.code.now) (at - c.args.at) ins) (fault.Bounds at)) c.loop-ins.next c.args.code.now c.loop-ins.ins-index c.ins-item.result c.loop-ins-test.true c.ins-item.is
-        (ap (λ test. demanded test (fault.Bounds c.loop-ins.next)) passed)) ∙ c.loop-ins.invariant.rest);
+          (ap (λ test. demanded test (fault.Bounds c.loop-ins.next)) passed)) ∙ c.loop-ins.invariant.rest);
     }
 
 pub returns : goal.returns
