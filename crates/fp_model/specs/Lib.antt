@@ -4,6 +4,7 @@ pub mod ClassSet
 pub mod Decoding
 pub mod Descriptor
 pub mod Form
+pub mod Instructions
 pub mod Reading
 pub mod Spelling
 pub mod Thin

@@ -1,3 +1,4 @@
 mod Loops
 mod Spelled
 mod Walking
+mod Places

@@ -73,18 +73,18 @@ agree_on f g same [] = refl
 agree_on f g same (None ∷ targets) = refl
 agree_on f g same (Some k ∷ targets) = rw (same k, agree_on f g same targets) refl
 
-far_targets-first : (pc step : ℕ) (args : List ℕ) (left at : ℕ) (test : ℕ → Bool) → list_all (passes test) (far_targets pc step args (suc left) at) ≡ (passes test (far_target pc args at) && list_all (passes test) (far_targets pc step args left (at + step)))
+far_targets-first : (pc step : ℕ) (args : List ℕ) (left at : ℕ) → far_targets pc step args (suc left) at ≡ far_target pc args at ∷ far_targets pc step args left (at + step)
 unfolding far_targets
-far_targets-first pc step args left at test = refl
+far_targets-first pc step args left at = refl
 
-pub far_targets-next : (pc step : ℕ) (args : List ℕ) (count i at : ℕ) (test : ℕ → Bool) → i < count → list_all (passes test) (far_targets pc step args (count - i) at) ≡ (passes test (far_target pc args at) && list_all (passes test) (far_targets pc step args (count - (i + 1)) (at + step)))
-far_targets-next pc step args count i at test lt =
+pub far_targets-next : (pc step : ℕ) (args : List ℕ) (count i at : ℕ) → i < count → far_targets pc step args (count - i) at ≡ far_target pc args at ∷ far_targets pc step args (count - (i + 1)) (at + step)
+far_targets-next pc step args count i at lt =
     let k : count - i ≡ suc (count - (i + 1)) = omega arith in
-    rw k (far_targets-first pc step args (count - (i + 1)) at test)
+    rw k (far_targets-first pc step args (count - (i + 1)) at)
 
-pub far_targets-end : (pc step : ℕ) (args : List ℕ) (count i at : ℕ) (test : ℕ → Bool) → count ≡ i → list_all (passes test) (far_targets pc step args (count - i) at) ≡ true
+pub far_targets-end : (pc step : ℕ) (args : List ℕ) (count i at : ℕ) → count ≡ i → far_targets pc step args (count - i) at ≡ []
 unfolding far_targets
-far_targets-end pc step args count i at test e = let k : count - i ≡ 0 = omega arith in rw k refl
+far_targets-end pc step args count i at e = let k : count - i ≡ 0 = omega arith in rw k refl
 
 -- ---- checks
 

@@ -50,7 +50,7 @@ fn starts(alloc: Global, code: &[RawIns]) -> Result<Vec<bool>, AllocError>
 
 /// The place at a distance of two bytes, which the operands begin with.
 #[tactic(auto, unfolding(fp_model::specs::Reading::number_at))]
-fn near(pc: u32, args: &[u8]) -> Option<u64>
+pub fn near(pc: u32, args: &[u8]) -> Option<u64>
     ensures { result ≡ near_target pc args.now 0 }
 {
     if args.len() < 2 {
@@ -61,7 +61,7 @@ fn near(pc: u32, args: &[u8]) -> Option<u64>
 
 /// The place at a distance of four bytes, which stands at an offset in the operands.
 #[tactic(auto, unfolding(fp_model::specs::Reading::number_at))]
-fn far(pc: u32, args: &[u8], at: usize) -> Option<u64>
+pub fn far(pc: u32, args: &[u8], at: usize) -> Option<u64>
     requires { at + 4 < 2 ^ 64 }
     ensures { result ≡ far_target pc args.now at }
 {

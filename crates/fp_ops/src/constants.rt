@@ -18,7 +18,7 @@ pub const INTERFACE_METHOD: u8 = 11;
 pub const CALL_SITE: u8 = 18;
 
 /// The text at an index, if there is one.
-fn text(entries: &[Entry], index: u16) -> Option<&[u8]>
+pub fn text(entries: &[Entry], index: u16) -> Option<&[u8]>
     ensures { option_copied result ≡ text_at entries.now index }
 {
     match at(entries, index as usize) {

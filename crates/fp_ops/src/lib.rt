@@ -4,7 +4,9 @@
 mod branches;
 mod constants;
 mod forms;
+mod jumps;
 mod operands;
+mod plain;
 mod reading;
 mod switches;
 
