@@ -32,7 +32,7 @@ pub element_class : (text : List ℕ) (at : ℕ) → 0 < length text → get_or 
 element_class [] at some first stops = absurd (omega arith)
 element_class (c ∷ rest) at some first stops = rw (add-one, first) (class_name rest at (rw from_place at stops))
 
-not_class : (c : ℕ) (rest : List ℕ) → c ≢ 76 → is_element (c ∷ rest) ≡ (is_among (codes "BCDFIJSZ") c && (length rest == 0))
+pub not_class : (c : ℕ) (rest : List ℕ) → c ≢ 76 → is_element (c ∷ rest) ≡ (is_among (codes "BCDFIJSZ") c && (length rest == 0))
 not_class c rest ne = ap (λ b. cond b (is_ended_name rest) (is_among (codes "BCDFIJSZ") c && (length rest == 0))) (ne_eqb c 76 ne)
 
 pub element_other : (c : ℕ) (rest : List ℕ) → c ≢ 76 → is_among (codes "BCDFIJSZ") c ≡ false → StopsAt is_element (c ∷ rest) 0
@@ -86,7 +86,7 @@ dimensions-rest (x ∷ xs) =
     ] refl
 
 -- the first byte tells whether there is one
-first_tells : (c : ℕ) (some other : List ℕ) → dimensions (c ∷ some) ≡ 0 → dimensions (c ∷ other) ≡ 0
+pub first_tells : (c : ℕ) (some other : List ℕ) → dimensions (c ∷ some) ≡ 0 → dimensions (c ∷ other) ≡ 0
 first_tells c some other none =
     elim (c == 91) as (λ b. (c == 91) ≡ b → dimensions (c ∷ other) ≡ 0) [
       | true ↦ λ h.
@@ -126,7 +126,7 @@ element_from_field n front c rest is none on =
     let both : (nat_le n 255 && is_element (front ++ on.0)) ≡ true = sym (is_field_descriptor-brackets n (front ++ on.0) begins) ∙ ap is_field_descriptor (sym (append_assoc (replicate n 91) front on.0)) ∙ on.1 in
     (on.0, (and_parts (nat_le n 255) (is_element (front ++ on.0)) both).1)
 
-cut_behind : (n : ℕ) (rest : List ℕ) (at : ℕ) → take (n + at) (replicate n 91 ++ rest) ≡ replicate n 91 ++ take at rest
+pub cut_behind : (n : ℕ) (rest : List ℕ) (at : ℕ) → take (n + at) (replicate n 91 ++ rest) ≡ replicate n 91 ++ take at rest
 cut_behind n rest at = ap (λ k. take (k + at) (replicate n 91 ++ rest)) (sym (length-replicate n 91)) ∙ take-append-add (replicate n 91) rest at
 
 stops_later : (n : ℕ) (rest : List ℕ) (at : ℕ) → dimensions rest ≡ 0 → StopsAt is_element rest at → at < length rest → ¬ GoesOn is_field_descriptor (replicate n 91 ++ take (at + 1) rest)

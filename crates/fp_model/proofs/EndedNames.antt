@@ -83,7 +83,7 @@ goes_on name passes =
 
 -- ---- the longest front that is a name
 
-all_front : (p : ℕ → Bool) (xs : List ℕ) → list_all p (take_while p xs) ≡ true
+pub all_front : (p : ℕ → Bool) (xs : List ℕ) → list_all p (take_while p xs) ≡ true
 all_front p [] = refl
 all_front p (x ∷ xs) =
     let rest : list_all p (take_while p xs) ≡ true = all_front p xs in
@@ -132,15 +132,15 @@ module _ (text : List ℕ) (name rest : List ℕ) (is : name ++ rest ≡ text) (
 
 -- ---- the same by the length of the name
 
-split : (text : List ℕ) → take_while is_name_byte text ++ drop (length (take_while is_name_byte text)) text ≡ text
+pub split : (text : List ℕ) → take_while is_name_byte text ++ drop (length (take_while is_name_byte text)) text ≡ text
 split text = rw (length-prefix_len is_name_byte text) (take-append-drop (prefix_len is_name_byte text) text)
 
 -- the byte behind the name is of none
-behind : (text : List ℕ) (byte : ℕ) (more : List ℕ) → drop (length (take_while is_name_byte text)) text ≡ byte ∷ more → is_name_byte byte ≡ false
+pub behind : (text : List ℕ) (byte : ℕ) (more : List ℕ) → drop (length (take_while is_name_byte text)) text ≡ byte ∷ more → is_name_byte byte ≡ false
 behind text = next_fails is_name_byte text
 
 -- a byte within a text, and what stands behind it
-at_byte : (text : List ℕ) (len : ℕ) → len < length text → drop len text ≡ get_or text len 0 ∷ drop (len + 1) text
+pub at_byte : (text : List ℕ) (len : ℕ) → len < length text → drop len text ≡ get_or text len 0 ∷ drop (len + 1) text
 at_byte text len lt = rw add-one (drop-cons text len 0 lt)
 
 module _ (text : List ℕ) (len : ℕ) (count : len ≡ length (take_while is_name_byte text)) where

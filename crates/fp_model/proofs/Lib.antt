@@ -15,6 +15,8 @@ pub mod ElementTexts
 pub mod EndedNames
 pub mod LongerTables
 pub mod Many
+pub mod MethodParts
+pub mod MethodTypes
 pub mod OneKind
 pub mod Readers
 pub mod Soundness

@@ -3,12 +3,12 @@ use Rattle.std.proofs.Common.{◌≡◌, ◌⊎◌, inl, inr, ℕ, zero, suc, �
 use Rattle.std.proofs.lemmas.Bool.{and_parts, and_from, leb-true, le-leb, ltb-true, lt-ltb, eqb-true, cond-true, cases_lt}
 use Rattle.std.proofs.lemmas.Bool.Decides.{nat_tests}
 use Rattle.std.proofs.lemmas.List.{append-nil, append_assoc, get_or-take, get_or-drop, get_or_past, length-take-le, length-drop}
-use Rattle.std.proofs.lemmas.Nat.{be_bytes_2, be_bytes_4, from_be_bytes-to_be_bytes_2, from_be_bytes-to_be_bytes_4}
+use Rattle.std.proofs.lemmas.Nat.{be_bytes_2, be_bytes_4, be_bytes_8, from_be_bytes-to_be_bytes_2, from_be_bytes-to_be_bytes_4}
 use Rattle.std.specs.List.{list_all, flat_map}
-use Rattle.std.specs.Int.{Width, w8, w16, w32, byte_len, from_be_bytes, to_be_bytes}
+use Rattle.std.specs.Int.{Width, w8, w16, w32, w64, byte_len, from_be_bytes, to_be_bytes}
 use Rattle.fp_model.specs.declared.fault.FileFault.{FileFault}
 use Rattle.fp_model.specs.Reading.{◌>>=◌, unbuilt, demanded, number_at, bytes_at, many_at, counted_at, nothing_at}
-use Rattle.fp_model.specs.Spelling.{u1, u2, u4, counted}
+use Rattle.fp_model.specs.Spelling.{u1, u2, u4, u8, counted}
 use Rattle.fp_model.specs.Thin.{is_u2}
 use Rattle.fp_model.proofs.Takes.{Takes, Takes-nil, Takes-then, Takes-rest, Takes-first, Takes-run, Takes-room, Takes-text}
 
@@ -122,6 +122,17 @@ u4_takes bytes all at x e =
     let end : at + 4 ≡ x.1 = sym (ap (λ (p : ℕ × ℕ). p.1) found.1) in
     let spelled : run ≡ u4 x.0 = sym (be_bytes_4 run x.0 size (run_below bytes at 4 all found.0) number) in
     subst (λ text. Takes bytes at text x.1) spelled (subst (Takes bytes at run) end (Takes-run bytes at 4 found.0))
+
+-- numbers of eight bytes
+pub u8_takes : (bytes : List ℕ) → IsBytes bytes → (at : ℕ) (x : ℕ × ℕ) → number_at w64 bytes at ≡ Ok x → Takes bytes at (u8 x.0) x.1
+u8_takes bytes all at x e =
+    let found = number_found w64 bytes at x e in
+    let run = take 8 (drop at bytes) in
+    let size : length run ≡ 8 = length-take-le 8 (drop at bytes) (omega (arith, found.0, length-drop at bytes)) in
+    let number : x.0 ≡ from_be_bytes w64 run = ap (λ (p : ℕ × ℕ). p.0) found.1 in
+    let end : at + 8 ≡ x.1 = sym (ap (λ (p : ℕ × ℕ). p.1) found.1) in
+    let spelled : run ≡ u8 x.0 = sym (be_bytes_8 run x.0 size (run_below bytes at 8 all found.0) number) in
+    subst (λ text. Takes bytes at text x.1) spelled (subst (Takes bytes at run) end (Takes-run bytes at 8 found.0))
 
 pub u4_again : (bytes : List ℕ) (at n next : ℕ) → n < 2 ^ 32 → Takes bytes at (u4 n) next → number_at w32 bytes at ≡ Ok (n, next)
 u4_again bytes at n next small p =

@@ -2,11 +2,7 @@
 use Rattle.std.proofs.Common.{◌≡◌, ℕ, ◌+◌, ◌<◌, ◌≤◌, List, [], ◌∷◌, ◌++◌, length, get_or, take, drop, refl, sym, ap, ◌∙◌, arith}
 use Rattle.std.proofs.Math.Seq.{drop-append_seam, take-append_seam}
 use Rattle.std.proofs.lemmas.List.{append-nil, drop_all, append_assoc, take-append-drop, drop-drop, length-append, length-drop, length-take-le}
-
--- the text stands at an offset, and what comes next behind it
-pub record Takes (bytes : List ℕ) (at : ℕ) (text : List ℕ) (next : ℕ) : Type 0 where
-  pub parts : drop at bytes ≡ text ++ drop next bytes
-  pub after : next ≡ at + length text
+pub use Rattle.fp_model.specs.Reading.{Takes}
 
 pub Takes-nil : (bytes : List ℕ) (at : ℕ) → Takes bytes at [] at
 Takes-nil bytes at = record { parts = refl; after = omega arith }

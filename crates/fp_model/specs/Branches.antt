@@ -8,7 +8,8 @@ use Rattle.fp_model.specs.declared.form.Form.{Form}
 use Rattle.fp_model.specs.declared.form.Form.TheVariants as form
 use Rattle.fp_model.specs.declared.raw.attribute.RawIns.{RawIns}
 use Rattle.fp_model.specs.Form.{form_of}
-use Rattle.fp_model.specs.Reading.{demanded, number_at, ◌>>=◌}
+use Rattle.fp_model.specs.Reading.{demanded, number_at}
+use Rattle.fp_model.specs.References.{each_checked}
 use Rattle.fp_model.specs.Spelling.{spelled_ins}
 use Rattle.fp_model.specs.Thin.{passes}
 
@@ -47,13 +48,6 @@ targets_of pc _ args = []
 -- an instruction at pc leads to places that pass the test
 abbrev pub leads_to : (ℕ → Bool) → ℕ → RawIns → Bool
 leads_to test pc ins = list_all (passes test) (targets_of pc (form_of ins.op) ins.args)
-
--- each of these, where the spelling of the first of them begins at an offset
-unfoldable pub each_checked : {A : Type 0} → (A → List ℕ) → (ℕ → A → Result (Unit {0}) FileFault) → (at : ℕ) → List A → Result (Unit {0}) FileFault
-each_checked spelled check at [] = Ok tt
-each_checked spelled check at (x ∷ xs) = do
-  checked ← check at x
-  each_checked spelled check (at + length (spelled x)) xs
 
 -- the instructions of a code that begins at an offset lead to instructions of it, or the first of them that doesn't
 abbrev pub targets_checked : List RawIns → (start : ℕ) → Result (Unit {0}) FileFault

@@ -13,39 +13,10 @@ use Rattle.fp_model.specs.declared.raw.attribute.RawIns.{RawIns}
 use Rattle.fp_model.specs.Descriptor.{dimensions}
 use Rattle.fp_model.specs.Form.{form_of}
 use Rattle.fp_model.specs.Reading.{demanded, number_at, bytes_at, ◌>>=◌}
-use Rattle.fp_model.specs.Thin.{passes, text_at, class_name_at, is_class_index}
+use Rattle.fp_model.specs.References.{descr_at, holds_of, tag_at}
+use Rattle.fp_model.specs.Thin.{passes, class_name_at, is_class_index}
 
 -- ---- what an instruction asks of the constant pool
-
--- the tag of an entry, 0 for none (section 4.4)
-abbrev pub tag_in : Option Entry → ℕ
-tag_in (Some (entry.Utf8 text)) = 1
-tag_in (Some (entry.Integer bits)) = 3
-tag_in (Some (entry.Float bits)) = 4
-tag_in (Some (entry.Long bits)) = 5
-tag_in (Some (entry.Double bits)) = 6
-tag_in (Some (entry.Class name)) = 7
-tag_in (Some (entry.Text text)) = 8
-tag_in (Some (entry.FieldRef class pair)) = 9
-tag_in (Some (entry.MethodRef class pair)) = 10
-tag_in (Some (entry.InterfaceRef class pair)) = 11
-tag_in (Some (entry.Pair name descr)) = 12
-tag_in (Some (entry.Handle kind index)) = 15
-tag_in (Some (entry.MethodType descr)) = 16
-tag_in (Some (entry.Dynamic boot pair)) = 17
-tag_in (Some (entry.InvokeDynamic boot pair)) = 18
-tag_in (Some (entry.Module name)) = 19
-tag_in (Some (entry.Package name)) = 20
-tag_in _ = 0
-
--- the tag of the entry at an index, 0 where there is none
-abbrev pub tag_at : List Entry → ℕ → ℕ
-tag_at entries index = tag_in (slice_get entries index)
-
--- the descriptor of a pair
-abbrev pub descr_in : List Entry → Option Entry → Option (List ℕ)
-descr_in entries (Some (entry.Pair name descr)) = text_at entries descr
-descr_in entries _ = None
 
 -- the type of a descriptor takes two words: long or double
 abbrev pub is_two_words : List ℕ → Bool
@@ -62,7 +33,7 @@ constant_words entries (Some (entry.Class name)) = 1
 constant_words entries (Some (entry.Text text)) = 1
 constant_words entries (Some (entry.Handle kind index)) = 1
 constant_words entries (Some (entry.MethodType descr)) = 1
-constant_words entries (Some (entry.Dynamic boot pair)) = if passes is_two_words (descr_in entries (slice_get entries pair)) then 2 else 1
+constant_words entries (Some (entry.Dynamic boot pair)) = if passes is_two_words (descr_at entries pair) then 2 else 1
 constant_words entries _ = 0
 
 -- an index, which stands at an offset, refers to a constant of so many words
@@ -75,8 +46,7 @@ refers entries at index tag or_tag = demanded ((tag_at entries index == tag) || 
 
 -- a class has so many dimensions; of what is no class nothing is asked
 abbrev pub has_dimensions : ℕ → Option (List ℕ) → Bool
-has_dimensions dims None = true
-has_dimensions dims (Some name) = nat_le dims (dimensions name)
+has_dimensions dims = holds_of (λ name. nat_le dims (dimensions name))
 
 -- ---- operands
 

@@ -1,6 +1,7 @@
 -- Descriptors (JVMS SE 21 section 4.3), as texts and as what they say.
-use Rattle.std.specs.Prelude.{◌≡◌, ℕ, ◌+◌, ◌-◌, ◌<◌, ◌≤◌, nat_le, nat_lt, ◌==◌, Bool, true, false, ◌&&◌, ◌||◌, not, List, [], ◌∷◌, ◌++◌, length, take, drop, replicate, codes, slice_get, slice_index, unwrap_or, Option, Some, None, IsTrue, IfSome, if◌then◌else◌}
+use Rattle.std.specs.Prelude.{◌≡◌, ℕ, zero, suc, ◌+◌, ◌-◌, ◌<◌, ◌≤◌, nat_le, nat_lt, ◌==◌, Bool, true, false, ◌&&◌, ◌||◌, not, List, [], ◌∷◌, ◌++◌, length, take, drop, replicate, codes, slice_get, slice_index, unwrap_or, Option, Some, None, IsTrue, IfSome, if◌then◌else◌}
 use Rattle.std.specs.List.{list_all, list_any, take_while, flat_map}
+use Rattle.std.specs.Str.{bytes_eq}
 use Rattle.fp_model.specs.declared.kind.Kind.{Kind}
 use Rattle.fp_model.specs.declared.kind.Kind.TheVariants as kind
 use Rattle.fp_model.specs.declared.kind.Elem.{Elem}
@@ -69,6 +70,56 @@ is_array_like text = nat_lt 0 (dimensions text)
 -- what a class entry may name (section 4.4.1): an array type by its descriptor, or any other text
 abbrev pub is_class_text : List ℕ → Bool
 is_class_text text = not (is_array_like text) || is_field_descriptor text
+
+-- how many bytes the type of an array's elements takes at the front of a text: 'L', a name and ';', or one letter
+abbrev pub element_len : List ℕ → ℕ
+element_len [] = 1
+element_len (c ∷ rest) = if c == 76 then length (take_while is_name_byte rest) + 2 else 1
+
+-- how many bytes a field descriptor takes at the front of a text
+abbrev pub field_len : List ℕ → ℕ
+field_len text = dimensions text + element_len (drop (dimensions text) text)
+
+-- the field descriptor at the front of a text, where it begins with one
+abbrev pub first_field : List ℕ → List ℕ
+first_field text = take (field_len text) text
+
+-- a result: a field descriptor, or 'V' (section 4.3.3)
+abbrev pub is_result : List ℕ → Bool
+is_result text = is_field_descriptor text || bytes_eq text (codes "V")
+
+-- behind so many bytes there are field descriptors, a ')' and a result
+unfoldable pub closes_behind : ℕ → List ℕ → Bool
+closes_behind passed [] = false
+closes_behind (suc passed) (c ∷ rest) = closes_behind passed rest
+closes_behind zero (c ∷ rest) = if c == 41 then is_result rest else (is_field_descriptor (first_field (c ∷ rest)) && closes_behind (field_len (c ∷ rest) - 1) rest)
+
+-- a method descriptor: '(', field descriptors, ')', and a result
+abbrev pub is_method_descriptor : List ℕ → Bool
+is_method_descriptor text = (slice_index text 0 == 40) && closes_behind 1 text
+
+-- the field descriptors behind so many bytes, up to the ')'
+unfoldable pub fields_behind : ℕ → List ℕ → List (List ℕ)
+fields_behind passed [] = []
+fields_behind (suc passed) (c ∷ rest) = fields_behind passed rest
+fields_behind zero (c ∷ rest) = if c == 41 then [] else first_field (c ∷ rest) ∷ fields_behind (field_len (c ∷ rest) - 1) rest
+
+-- the descriptors of a method's parameters
+abbrev pub parameters : List ℕ → List (List ℕ)
+parameters text = fields_behind 1 text
+
+-- the words of a frame that a value takes, by its field descriptor: two for a long or a double (section 2.6.1)
+abbrev pub words_of : List ℕ → ℕ
+words_of text = if is_among (codes "DJ") (slice_index text 0) then 2 else 1
+
+-- the words that all of these take
+unfoldable pub words_of_all : List (List ℕ) → ℕ
+words_of_all [] = 0
+words_of_all (text ∷ texts) = words_of text + words_of_all texts
+
+-- the words of a method's parameters, where the text is a method descriptor
+abbrev pub parameter_words : List ℕ → Option ℕ
+parameter_words text = if is_method_descriptor text then Some (words_of_all (parameters text)) else None
 
 -- the text of a number of a table of names
 abbrev pub text_of : List (List ℕ) → ℕ → List ℕ

@@ -14,9 +14,9 @@ use Rattle.fp_model.specs.declared.raw.pool.Entry.TheVariants as entry
 use Rattle.fp_model.specs.declared.raw.attribute.RawIns.{RawIns}
 use Rattle.fp_model.specs.Branches.{near_target, far_target, targets_of}
 use Rattle.fp_model.specs.Form.{form_of}
-use Rattle.fp_model.specs.Decoding.{descr_in}
 use Rattle.fp_model.specs.Descriptor.{is_among}
 use Rattle.fp_model.specs.Reading.{number_at}
+use Rattle.fp_model.specs.References.{descr_at}
 
 -- the sort of what is loaded or stored, by the types in the order of the opcodes: int, long, float, double, reference
 abbrev pub type_sort : ℕ → Sort
@@ -139,7 +139,7 @@ entry_instr entries (Some (entry.Class name)) = Some instr.ConstRef
 entry_instr entries (Some (entry.Text text)) = Some instr.ConstRef
 entry_instr entries (Some (entry.Handle kind index)) = Some instr.ConstRef
 entry_instr entries (Some (entry.MethodType descr)) = Some instr.ConstRef
-entry_instr entries (Some (entry.Dynamic boot pair)) = descr_instr (descr_in entries (slice_get entries pair))
+entry_instr entries (Some (entry.Dynamic boot pair)) = descr_instr (descr_at entries pair)
 entry_instr entries _ = None
 
 abbrev pub found_entry : List Entry → Option ℕ → Option Entry

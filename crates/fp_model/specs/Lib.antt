@@ -5,6 +5,8 @@ pub mod Decoding
 pub mod Descriptor
 pub mod Form
 pub mod Instructions
+pub mod Pool
 pub mod Reading
+pub mod References
 pub mod Spelling
 pub mod Thin

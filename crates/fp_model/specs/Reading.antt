@@ -39,6 +39,11 @@ number_at w bytes at =
     then Ok (from_be_bytes w (take (byte_len w) (drop at bytes)), at + byte_len w)
     else Err (fault.Truncated at)
 
+-- the text stands at an offset, and what comes next behind it
+pub record Takes (bytes : List ℕ) (at : ℕ) (text : List ℕ) (next : ℕ) : Type 0 where
+  pub parts : drop at bytes ≡ text ++ drop next bytes
+  pub after : next ≡ at + length text
+
 -- so many of one kind, one after the other
 unfoldable pub many_at : {A : Type 0} → (ℕ → Result (A × ℕ) FileFault) → ℕ → List A → ℕ → Result (List A × ℕ) FileFault
 many_at read zero before at = Ok (before, at)

@@ -1,4 +1,5 @@
 mod fault;
+mod method;
 mod place;
 mod reading;
 
@@ -6,6 +7,7 @@ ghost use Rattle.std.specs.Prelude.{◌≡◌};
 ghost use Rattle.fp_model.specs.Descriptor.{is_field_descriptor};
 
 pub use fault::DescrFault;
+pub use method::{arg_words, is_descr};
 use place::bad_place;
 pub use reading::{law_one_kind, read_kind};
 

@@ -1,5 +1,5 @@
 ghost use Rattle.std.specs.Prelude.{◌≡◌, ◌+◌, ◌^◌, ◌<◌, ◌≤◌, ◌↔◌, length, IsTrue};
-ghost use Rattle.std.specs.Int.{w8, w16, w32};
+ghost use Rattle.std.specs.Int.{w8, w16, w32, w64};
 ghost use Rattle.fp_model.specs.Reading.{Gives, number_at, bytes_at};
 
 use crate::FileFault;
@@ -50,6 +50,29 @@ pub fn u32_at(bytes: &[u8], at: u32) -> Result<(u32, u32), FileFault>
     let i = at as usize;
     let number = u32::from_be_bytes([bytes[i], bytes[i + 1], bytes[i + 2], bytes[i + 3]]);
     Ok((number, at + 4))
+}
+
+/// The number of eight bytes at an offset, and the offset after it.
+#[tactic(auto, unfolding(crate::specs::Reading::number_at))]
+pub fn u64_at(bytes: &[u8], at: u32) -> Result<(u64, u32), FileFault>
+    requires { length bytes.now < 2 ^ 32 }
+    ensures { Gives result (number_at w64 bytes.now at) }
+{
+    if !lies(bytes, at, 8) {
+        return Err(FileFault::Truncated { at });
+    }
+    let i = at as usize;
+    let number = u64::from_be_bytes([
+        bytes[i],
+        bytes[i + 1],
+        bytes[i + 2],
+        bytes[i + 3],
+        bytes[i + 4],
+        bytes[i + 5],
+        bytes[i + 6],
+        bytes[i + 7],
+    ]);
+    Ok((number, at + 8))
 }
 
 /// A copy of so many bytes at an offset, and the offset after them.

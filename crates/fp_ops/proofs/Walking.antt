@@ -11,7 +11,8 @@ use Rattle.fp_model.specs.Reading.{◌>>=◌, demanded}
 use Rattle.fp_model.specs.Spelling.{spelled_ins}
 use Rattle.fp_model.specs.Thin.{passes}
 use Rattle.fp_model.specs.Form.{form_of}
-use Rattle.fp_model.specs.Branches.{each_checked, far_target, far_targets, leads_to, starts_at, targets_of}
+use Rattle.fp_model.specs.Branches.{far_target, far_targets, leads_to, starts_at, targets_of}
+use Rattle.fp_model.specs.References.{each_checked}
 use Rattle.fp_ops.specs.Marks.{is_marked}
 
 -- ---- the next of a list

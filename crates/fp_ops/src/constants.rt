@@ -3,7 +3,8 @@ ghost use Rattle.std.specs.Prelude.{◌≡◌, slice_get, option_copied, take_wh
 ghost use Rattle.fp_model.specs.Descriptor.{dimensions};
 ghost use Rattle.fp_model.specs.Thin.{text_at, class_name_at, is_class_index, passes};
 ghost use Rattle.fp_model.specs.Decoding as decoding;
-ghost use Rattle.fp_model.specs.Decoding.{constant_words, descr_in, is_two_words, tag_at};
+ghost use Rattle.fp_model.specs.Decoding.{constant_words, is_two_words};
+ghost use Rattle.fp_model.specs.References.{descr_at, tag_at};
 
 use fp_model::Entry;
 use sqlite_items::at;
@@ -65,7 +66,7 @@ pub fn tag(entries: &[Entry], index: u16) -> u8
 
 /// Whether the pair at an index has a descriptor of two words.
 fn is_wide_pair(entries: &[Entry], index: u16) -> bool
-    ensures { result ≡ passes is_two_words (descr_in entries.now (slice_get entries.now index)) }
+    ensures { result ≡ passes is_two_words (descr_at entries.now index) }
 {
     match at(entries, index as usize) {
         Some(Entry::Pair { descr, .. }) => is_wide(entries, *descr),

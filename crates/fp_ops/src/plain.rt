@@ -4,7 +4,7 @@ ghost use Rattle.std.specs.Option.{option_map};
 ghost use Rattle.std.specs.Int.{w8, w16};
 ghost use Rattle.fp_model.specs.Reading.{number_at};
 ghost use Rattle.fp_model.specs.Branches.{far_target, near_target};
-ghost use Rattle.fp_model.specs.Decoding.{descr_in};
+ghost use Rattle.fp_model.specs.References.{descr_at};
 ghost use Rattle.fp_model.specs.Descriptor.{is_among};
 ghost use Rattle.fp_model.specs.Thin.{text_at};
 ghost use Rattle.fp_model.specs.Instructions as instructions;
@@ -224,7 +224,7 @@ fn letter_instr(letter: u8) -> Instr
 
 /// What loads the value of a pair's descriptor.
 fn pair_instr(entries: &[Entry], index: u16) -> Option<Instr>
-    ensures { result ≡ instructions.descr_instr (descr_in entries.now (slice_get entries.now index)) }
+    ensures { result ≡ instructions.descr_instr (descr_at entries.now index) }
 {
     match at(entries, index as usize) {
         Some(Entry::Pair { descr, .. }) => text_instr(entries, *descr),

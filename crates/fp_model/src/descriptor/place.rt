@@ -83,7 +83,7 @@ fn bad_place_of_name(text: &[u8]) -> Option<usize>
 }
 
 /// How many bytes of a class name a text begins with.
-fn count_name(text: &[u8]) -> usize
+pub fn count_name(text: &[u8]) -> usize
     ensures count { result ≡ length (take_while is_name_byte text.now) }
     ensures within { result ≤ length text.now }
 {

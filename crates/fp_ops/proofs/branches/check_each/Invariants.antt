@@ -3,7 +3,8 @@ use Rattle.std.specs.List.{flat_map}
 use Rattle.fp_model.specs.declared.fault.FileFault.TheVariants as fault
 use Rattle.fp_model.specs.Reading.{demanded}
 use Rattle.fp_model.specs.Spelling.{spelled_ins}
-use Rattle.fp_model.specs.Branches.{each_checked, leads_to, starts_at, targets_checked}
+use Rattle.fp_model.specs.Branches.{leads_to, starts_at, targets_checked}
+use Rattle.fp_model.specs.References.{each_checked}
 use Rattle.fp_ops.proofs.branches.check_each.Given as goal
 
 -- what is left decides

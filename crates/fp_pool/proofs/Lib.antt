@@ -1,0 +1,4 @@
+mod Checking
+mod Marks
+mod Slots
+mod Spelled

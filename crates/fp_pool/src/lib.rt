@@ -1,0 +1,13 @@
+//! Reads the constant pool of a class file (JVMS SE 21 section 4.4).
+#![tactic(auto)]
+
+mod cut;
+mod entry;
+mod look_up;
+mod reader;
+mod references;
+mod sorts;
+
+pub use cut::cut_pool;
+pub use reader::read_pool;
+pub use references::check_references;
