@@ -1,6 +1,6 @@
 -- Instructions by their forms (JVMS SE 21 chapter 6): those that take no name from the constant pool.
 use Rattle.std.specs.Prelude.{ℕ, ◌-◌, ◌/◌, ◌%◌, ◌==◌, nat_lt, Bool, true, false, ◌||◌, List, [], ◌∷◌, ◌++◌, codes, slice_get, slice_index, Option, Some, None, Result, Ok, Err, if◌then◌else◌}
-use Rattle.std.specs.Option.{option_map}
+use Rattle.std.specs.Option.{option_map, option_or}
 use Rattle.std.specs.Int.{w8, w16}
 use Rattle.fp_model.specs.declared.fault.FileFault.{FileFault}
 use Rattle.fp_model.specs.declared.class.instr.Instr.{Instr}
@@ -152,3 +152,10 @@ constant_instr entries ins =
     if ins.op == 18 then entry_instr entries (found_entry entries (found (number_at w8 ins.args 0)))
     else if (ins.op == 19) || (ins.op == 20) then entry_instr entries (found_entry entries (found (number_at w16 ins.args 0)))
     else None
+
+-- ---- all of these
+
+-- the instruction at a place, where it takes no name
+abbrev pub plain_instr : List Entry → ℕ → RawIns → Option Instr
+plain_instr entries pc ins =
+    option_or (fixed_instr ins.op) (option_or (operand_instr pc ins) (option_or (constant_instr entries ins) (switch_instr pc ins)))

@@ -5,6 +5,8 @@ pub mod Decoding
 pub mod Descriptor
 pub mod Form
 pub mod Instructions
+pub mod Interning
+pub mod NamedInstructions
 pub mod Pool
 pub mod Reading
 pub mod References

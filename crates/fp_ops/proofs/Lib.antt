@@ -2,3 +2,4 @@ mod Loops
 mod Spelled
 mod Walking
 mod Places
+mod NamedParts

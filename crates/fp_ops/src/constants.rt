@@ -29,7 +29,7 @@ pub fn text(entries: &[Entry], index: u16) -> Option<&[u8]>
 }
 
 /// The name of the class at an index, if there is one.
-fn class_name(entries: &[Entry], index: u16) -> Option<&[u8]>
+pub fn class_name(entries: &[Entry], index: u16) -> Option<&[u8]>
     ensures { option_copied result ≡ class_name_at entries.now index }
 {
     match at(entries, index as usize) {

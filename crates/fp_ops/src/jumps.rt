@@ -5,8 +5,8 @@ ghost use Rattle.fp_model.specs.Branches.{far_target, far_targets, targets_of};
 ghost use Rattle.fp_model.specs.Instructions as instructions;
 
 use crate::branches::far;
-use crate::plain::short;
-use fp_model::{Instr, RawIns};
+use crate::plain::{constant_instr, fixed_instr, operand_instr, short};
+use fp_model::{Entry, Instr, RawIns};
 use sqlite_items::Items;
 use std::alloc::{AllocError, Global};
 
@@ -54,4 +54,25 @@ pub fn switch_instr(alloc: Global, pc: u32, ins: &RawIns) -> Result<Option<Instr
         Some(to) => Ok(Some(Instr::Switch { to })),
         None => Ok(None),
     }
+}
+
+/// The instruction at a place, where it takes no name from the constant pool.
+pub fn plain_instr(
+    alloc: Global,
+    entries: &[Entry],
+    pc: u32,
+    ins: &RawIns,
+) -> Result<Option<Instr>, AllocError>
+    ensures { IfOk result (λ i. i ≡ instructions.plain_instr entries.now pc ins.now) }
+{
+    if let Some(instr) = fixed_instr(ins.op) {
+        return Ok(Some(instr));
+    }
+    if let Some(instr) = operand_instr(pc, ins) {
+        return Ok(Some(instr));
+    }
+    if let Some(instr) = constant_instr(entries, ins) {
+        return Ok(Some(instr));
+    }
+    switch_instr(alloc, pc, ins)
 }

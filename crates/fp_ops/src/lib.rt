@@ -5,6 +5,7 @@ mod branches;
 mod constants;
 mod forms;
 mod jumps;
+mod named;
 mod operands;
 mod plain;
 mod reading;

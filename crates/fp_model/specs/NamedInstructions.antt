@@ -1,0 +1,92 @@
+-- Instructions by their forms (JVMS SE 21 chapter 6): those that take names from the constant pool.
+use Rattle.std.specs.Prelude.{◌≡◌, ℕ, ◌==◌, ◌||◌, ◌&&◌, nat_le, Bool, true, false, if◌then◌else◌, List, [], ◌∷◌, slice_get, drop, Option, Some, None}
+use Rattle.fp_model.specs.declared.class.instr.Instr.{Instr}
+use Rattle.fp_model.specs.declared.class.instr.Instr.TheVariants as instr
+use Rattle.fp_model.specs.declared.kind.Kind.{Kind}
+use Rattle.fp_model.specs.declared.kind.Kind.TheVariants as kind
+use Rattle.fp_model.specs.declared.raw.pool.Entry.{Entry}
+use Rattle.fp_model.specs.declared.raw.pool.Entry.TheVariants as entry
+use Rattle.fp_model.specs.Descriptor.{is_array_like, kind_names, IsKindOf}
+use Rattle.fp_model.specs.Thin.{text_at, class_name_at}
+
+-- the texts of a reference to a member (section 4.4.2)
+pub record MemberTexts : Type 0 where
+  pub class : List ℕ
+  pub name : List ℕ
+  pub descr : List ℕ
+
+-- where there are all three
+abbrev pub all_texts : (class name descr : Option (List ℕ)) → Option MemberTexts
+all_texts (Some class) (Some name) (Some descr) = Some (record { class = class; name = name; descr = descr })
+all_texts _ _ _ = None
+
+-- those of a class and a pair
+abbrev pub member_with : List Entry → ℕ → Option Entry → Option MemberTexts
+member_with entries class (Some (entry.Pair name descr)) = all_texts (class_name_at entries class) (text_at entries name) (text_at entries descr)
+member_with entries class _ = None
+
+abbrev pub member_in : List Entry → Option Entry → Option MemberTexts
+member_in entries (Some (entry.FieldRef class pair)) = member_with entries class (slice_get entries pair)
+member_in entries (Some (entry.MethodRef class pair)) = member_with entries class (slice_get entries pair)
+member_in entries (Some (entry.InterfaceRef class pair)) = member_with entries class (slice_get entries pair)
+member_in entries _ = None
+
+-- the texts of the reference at an index
+abbrev pub member_at : List Entry → ℕ → Option MemberTexts
+member_at entries index = member_in entries (slice_get entries index)
+
+-- the numbers are those of a member's texts
+pub record IsMember (names : List (List ℕ)) (texts : MemberTexts) (class name descr : ℕ) : Type 0 where
+  pub class_is : slice_get names class ≡ Some texts.class
+  pub name_is : slice_get names name ≡ Some texts.name
+  pub descr_is : slice_get names descr ≡ Some texts.descr
+
+-- the opcodes of accesses to fields
+abbrev pub is_field_op : ℕ → Bool
+is_field_op op = nat_le 178 op && nat_le op 181
+
+-- an access to a field, by its opcode and the texts of its reference
+abbrev pub IsFieldInstr : List (List ℕ) → ℕ → MemberTexts → Instr → Type 0
+IsFieldInstr names op texts (instr.GetStatic class name descr k) = (op ≡ 178) × IsMember names texts class name descr × IsKindOf names texts.descr k
+IsFieldInstr names op texts (instr.PutStatic class name descr k) = (op ≡ 179) × IsMember names texts class name descr × IsKindOf names texts.descr k
+IsFieldInstr names op texts (instr.GetField class name descr k) = (op ≡ 180) × IsMember names texts class name descr × IsKindOf names texts.descr k
+IsFieldInstr names op texts (instr.PutField class name descr k) = (op ≡ 181) × IsMember names texts class name descr × IsKindOf names texts.descr k
+IsFieldInstr names op texts _ = ⊥
+
+-- the opcodes of instructions with a class alone
+abbrev pub is_class_op : ℕ → Bool
+is_class_op op = (op == 187) || ((op == 192) || (op == 193))
+
+-- the texts that an access to a field takes
+abbrev pub field_texts : MemberTexts → List (List ℕ)
+field_texts texts = texts.class ∷ (texts.name ∷ (texts.descr ∷ kind_names texts.descr))
+
+-- an instruction with a class alone, by its opcode and the class's name
+abbrev pub IsClassInstr : List (List ℕ) → ℕ → List ℕ → Instr → Type 0
+IsClassInstr names op text (instr.New class) = (op ≡ 187) × (slice_get names class ≡ Some text)
+IsClassInstr names op text (instr.CheckCast class) = (op ≡ 192) × (slice_get names class ≡ Some text)
+IsClassInstr names op text (instr.InstanceOf class) = (op ≡ 193) × (slice_get names class ≡ Some text)
+IsClassInstr names op text _ = ⊥
+
+-- a kind is that of a class by its name: an array's by its descriptor, and else a class's (section 4.4.1)
+abbrev pub IsClassKindBy : Bool → List (List ℕ) → List ℕ → Kind → Type 0
+IsClassKindBy true names text k = IsKindOf names text k
+IsClassKindBy false names text (kind.Class name) = slice_get names name ≡ Some text
+IsClassKindBy false names text _ = ⊥
+
+abbrev pub IsClassKind : List (List ℕ) → List ℕ → Kind → Type 0
+IsClassKind names text k = IsClassKindBy (is_array_like text) names text k
+
+-- the texts that such a kind takes
+abbrev pub class_kind_names : List ℕ → List (List ℕ)
+class_kind_names text = if is_array_like text then kind_names text else text ∷ []
+
+-- an array of one dimension, by the name of its elements' class
+abbrev pub IsArrayInstr : List (List ℕ) → List ℕ → Instr → Type 0
+IsArrayInstr names text (instr.NewArray dims element) = (dims ≡ 1) × IsClassKind names text element
+IsArrayInstr names text _ = ⊥
+
+-- an array of so many dimensions, by the name of its class; its elements have one dimension less
+abbrev pub IsMultiArrayInstr : List (List ℕ) → ℕ → List ℕ → Instr → Type 0
+IsMultiArrayInstr names wanted text (instr.NewArray dims element) = (dims ≡ wanted) × IsKindOf names (drop 1 text) element
+IsMultiArrayInstr names wanted text _ = ⊥
