@@ -1,12 +1,12 @@
 -- Instructions by their forms (JVMS SE 21 chapter 6): those that take names from the constant pool.
-use Rattle.std.specs.Prelude.{◌≡◌, ℕ, ◌==◌, ◌||◌, ◌&&◌, nat_le, Bool, true, false, if◌then◌else◌, List, [], ◌∷◌, slice_get, drop, Option, Some, None}
+use Rattle.std.specs.Prelude.{◌≡◌, ℕ, ◌==◌, ◌||◌, ◌&&◌, nat_le, Bool, true, false, if◌then◌else◌, List, [], ◌∷◌, slice_get, drop, length, nat_lt, Option, Some, None}
 use Rattle.fp_model.specs.declared.class.instr.Instr.{Instr}
 use Rattle.fp_model.specs.declared.class.instr.Instr.TheVariants as instr
 use Rattle.fp_model.specs.declared.kind.Kind.{Kind}
 use Rattle.fp_model.specs.declared.kind.Kind.TheVariants as kind
 use Rattle.fp_model.specs.declared.raw.pool.Entry.{Entry}
 use Rattle.fp_model.specs.declared.raw.pool.Entry.TheVariants as entry
-use Rattle.fp_model.specs.Descriptor.{is_array_like, kind_names, IsKindOf}
+use Rattle.fp_model.specs.Descriptor.{is_array_like, is_field_descriptor, kind_names, IsKindOf}
 use Rattle.fp_model.specs.Thin.{text_at, class_name_at}
 
 -- the texts of a reference to a member (section 4.4.2)
@@ -90,3 +90,37 @@ IsArrayInstr names text _ = ⊥
 abbrev pub IsMultiArrayInstr : List (List ℕ) → ℕ → List ℕ → Instr → Type 0
 IsMultiArrayInstr names wanted text (instr.NewArray dims element) = (dims ≡ wanted) × IsKindOf names (drop 1 text) element
 IsMultiArrayInstr names wanted text _ = ⊥
+
+-- ---- by the index in the operands
+
+-- what is there has the property
+abbrev pub IsOf : {A : Type 0} → (A → Type 0) → Option A → Type 0
+IsOf property None = ⊥
+IsOf property (Some x) = property x
+
+-- the texts that something takes, none where it isn't there
+abbrev pub texts_by : {A : Type 0} → (A → List (List ℕ)) → Option A → List (List ℕ)
+texts_by texts None = []
+texts_by texts (Some x) = texts x
+
+-- the class of an array whose elements have a descriptor
+abbrev pub is_array_text : List ℕ → Bool
+is_array_text text = nat_lt 0 (length text) && is_field_descriptor (drop 1 text)
+
+-- a text of a class file, where its length has two bytes (section 4.4.7), passes the test
+abbrev pub is_entry_text : (List ℕ → Bool) → List ℕ → Bool
+is_entry_text test text = nat_lt (length text) 65536 && test text
+
+-- Instructions at an index of the constant pool, by the opcode; `dims` is the number of dimensions behind the index.
+
+abbrev pub IsFieldAt : List (List ℕ) → List Entry → (op index : ℕ) → Instr → Type 0
+IsFieldAt names entries op index i = IsOf (λ texts. IsFieldInstr names op texts i) (member_at entries index)
+
+abbrev pub IsClassAt : List (List ℕ) → List Entry → (op index : ℕ) → Instr → Type 0
+IsClassAt names entries op index i = IsOf (λ text. IsClassInstr names op text i) (class_name_at entries index)
+
+abbrev pub IsArrayAt : List (List ℕ) → List Entry → ℕ → Instr → Type 0
+IsArrayAt names entries index i = IsOf (λ text. IsArrayInstr names text i) (class_name_at entries index)
+
+abbrev pub IsMultiArrayAt : List (List ℕ) → List Entry → (index dims : ℕ) → Instr → Type 0
+IsMultiArrayAt names entries index dims i = IsOf (λ text. IsMultiArrayInstr names dims text i) (class_name_at entries index)

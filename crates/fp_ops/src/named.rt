@@ -1,8 +1,9 @@
 //! The forms of instructions that take names from the constant pool.
-ghost use Rattle.std.specs.Prelude.{◌≡◌, ◌^◌, ◌<◌, ◌≤◌, ℕ, List, [], ◌∷◌, length, drop, slice_get, true, IfOk, IfNone, IfSome};
+ghost use Rattle.std.specs.Prelude.{◌≡◌, ◌^◌, ◌<◌, ◌≤◌, ℕ, List, [], ◌∷◌, length, drop, slice_get, is_some, true, IfOk, IfNone, IfSome};
 ghost use Rattle.fp_model.specs.Descriptor.{is_array_like, is_class_text, is_field_descriptor, kind_names, IsKindOf};
 ghost use Rattle.fp_model.specs.Interning.{Interned};
-ghost use Rattle.fp_model.specs.NamedInstructions.{class_kind_names, field_texts, is_class_op, is_field_op, member_at, IsArrayInstr, IsClassInstr, IsClassKind, IsFieldInstr, IsMember, IsMultiArrayInstr, MemberTexts};
+ghost use Rattle.fp_model.specs.Thin.{class_name_at, passes};
+ghost use Rattle.fp_model.specs.NamedInstructions.{class_kind_names, field_texts, is_array_text, is_class_op, is_entry_text, is_field_op, member_at, texts_by, IsArrayAt, IsClassAt, IsFieldAt, IsMultiArrayAt, IsArrayInstr, IsClassInstr, IsClassKind, IsFieldInstr, IsMember, IsMultiArrayInstr, MemberTexts};
 ghost use Rattle.fp_model.specs.NamedInstructions as instructions;
 
 use crate::constants::{class_name, text};
@@ -209,8 +210,7 @@ fn multi_array_instr(
     class: &[u8],
     names: &mut Names,
 ) -> Result<Instr, NameFault>
-    requires some { 0 < length class.now }
-    requires element { is_field_descriptor (drop 1 class.now) ≡ true }
+    requires array { is_array_text class.now ≡ true }
     requires short { length class.now < 2 ^ 31 }
     ensures instr { IfOk result (IsMultiArrayInstr names.new dims class.now) }
     ensures names { Interned result names.old names.new (kind_names (drop 1 class.now)) }
@@ -218,5 +218,78 @@ fn multi_array_instr(
     match kind(alloc, &class[1..], names) {
         Ok(element) => Ok(Instr::NewArray { dims, element }),
         Err(fault) => Err(fault),
+    }
+}
+
+/// An access to a field, by its opcode and the index of its reference.
+pub fn field_at(
+    alloc: Global,
+    entries: &[Entry],
+    op: u8,
+    index: u16,
+    names: &mut Names,
+) -> Result<Instr, NameFault>
+    requires op { is_field_op op ≡ true }
+    requires there { passes (λ texts. is_entry_text is_field_descriptor texts.descr) (member_at entries.now index) ≡ true }
+    ensures instr { IfOk result (IsFieldAt names.new entries.now op index) }
+    ensures names { Interned result names.old names.new (texts_by field_texts (member_at entries.now index)) }
+{
+    match texts_of(entries, index) {
+        Some(texts) => field_instr(alloc, op, texts, names),
+        None => unreachable!(),
+    }
+}
+
+/// An instruction with a class alone, by its opcode and the index of the class.
+pub fn class_at(
+    alloc: Global,
+    entries: &[Entry],
+    op: u8,
+    index: u16,
+    names: &mut Names,
+) -> Result<Instr, NameFault>
+    requires op { is_class_op op ≡ true }
+    requires there { is_some (class_name_at entries.now index) ≡ true }
+    ensures instr { IfOk result (IsClassAt names.new entries.now op index) }
+    ensures names { Interned result names.old names.new (texts_by (λ text. text ∷ []) (class_name_at entries.now index)) }
+{
+    match class_name(entries, index) {
+        Some(class) => class_instr(alloc, op, class, names),
+        None => unreachable!(),
+    }
+}
+
+/// An array of one dimension, by the index of its elements' class.
+pub fn array_at(
+    alloc: Global,
+    entries: &[Entry],
+    index: u16,
+    names: &mut Names,
+) -> Result<Instr, NameFault>
+    requires there { passes (is_entry_text is_class_text) (class_name_at entries.now index) ≡ true }
+    ensures instr { IfOk result (IsArrayAt names.new entries.now index) }
+    ensures names { Interned result names.old names.new (texts_by class_kind_names (class_name_at entries.now index)) }
+{
+    match class_name(entries, index) {
+        Some(class) => array_instr(alloc, class, names),
+        None => unreachable!(),
+    }
+}
+
+/// An array of so many dimensions, by the index of its class.
+pub fn multi_array_at(
+    alloc: Global,
+    entries: &[Entry],
+    index: u16,
+    dims: u8,
+    names: &mut Names,
+) -> Result<Instr, NameFault>
+    requires there { passes (is_entry_text is_array_text) (class_name_at entries.now index) ≡ true }
+    ensures instr { IfOk result (IsMultiArrayAt names.new entries.now index dims) }
+    ensures names { Interned result names.old names.new (texts_by (λ text. kind_names (drop 1 text)) (class_name_at entries.now index)) }
+{
+    match class_name(entries, index) {
+        Some(class) => multi_array_instr(alloc, dims, class, names),
+        None => unreachable!(),
     }
 }
