@@ -1,13 +1,13 @@
 -- Instructions by their forms (JVMS SE 21 chapter 6): those that take names from the constant pool.
-use Rattle.std.specs.Prelude.{◌≡◌, ℕ, ◌==◌, ◌||◌, ◌&&◌, nat_le, Bool, true, false, if◌then◌else◌, List, [], ◌∷◌, slice_get, drop, length, nat_lt, Option, Some, None}
+use Rattle.std.specs.Prelude.{◌≡◌, ℕ, ◌==◌, ◌||◌, ◌&&◌, nat_le, Bool, true, false, if◌then◌else◌, List, [], ◌∷◌, slice_get, is_some, drop, length, nat_lt, Option, Some, None}
 use Rattle.fp_model.specs.declared.class.instr.Instr.{Instr}
 use Rattle.fp_model.specs.declared.class.instr.Instr.TheVariants as instr
 use Rattle.fp_model.specs.declared.kind.Kind.{Kind}
 use Rattle.fp_model.specs.declared.kind.Kind.TheVariants as kind
 use Rattle.fp_model.specs.declared.raw.pool.Entry.{Entry}
 use Rattle.fp_model.specs.declared.raw.pool.Entry.TheVariants as entry
-use Rattle.fp_model.specs.Descriptor.{is_array_like, is_field_descriptor, kind_names, IsKindOf}
-use Rattle.fp_model.specs.Thin.{text_at, class_name_at}
+use Rattle.fp_model.specs.Descriptor.{is_array_like, is_class_text, is_field_descriptor, kind_names, IsKindOf}
+use Rattle.fp_model.specs.Thin.{passes, text_at, class_name_at}
 
 -- the texts of a reference to a member (section 4.4.2)
 pub record MemberTexts : Type 0 where
@@ -124,3 +124,28 @@ IsArrayAt names entries index i = IsOf (λ text. IsArrayInstr names text i) (cla
 
 abbrev pub IsMultiArrayAt : List (List ℕ) → List Entry → (index dims : ℕ) → Instr → Type 0
 IsMultiArrayAt names entries index dims i = IsOf (λ text. IsMultiArrayInstr names dims text i) (class_name_at entries index)
+
+-- ---- all of these but the calls
+
+-- what stands at the index is what the opcode asks for
+abbrev pub is_named_sound : List Entry → (op index : ℕ) → Bool
+is_named_sound entries op index =
+    if is_field_op op then passes (λ texts. is_entry_text is_field_descriptor texts.descr) (member_at entries index)
+    else if is_class_op op then is_some (class_name_at entries index)
+    else if op == 189 then passes (is_entry_text is_class_text) (class_name_at entries index)
+    else ((op == 197) && passes (is_entry_text is_array_text) (class_name_at entries index))
+
+-- the texts that the instruction takes, in order
+abbrev pub named_texts : List Entry → (op index : ℕ) → List (List ℕ)
+named_texts entries op index =
+    if is_field_op op then texts_by field_texts (member_at entries index)
+    else if is_class_op op then texts_by (λ text. text ∷ []) (class_name_at entries index)
+    else if op == 189 then texts_by class_kind_names (class_name_at entries index)
+    else texts_by (λ text. kind_names (drop 1 text)) (class_name_at entries index)
+
+-- the instruction of an opcode and the index behind it, and of the number of dimensions behind that
+pub record IsNamedInstr (names : List (List ℕ)) (entries : List Entry) (op index dims : ℕ) (i : Instr) : Type 0 where
+  pub field : is_field_op op ≡ true → IsFieldAt names entries op index i
+  pub class : is_class_op op ≡ true → IsClassAt names entries op index i
+  pub array : op ≡ 189 → IsArrayAt names entries index i
+  pub multi_array : op ≡ 197 → IsMultiArrayAt names entries index dims i

@@ -3,7 +3,7 @@ ghost use Rattle.std.specs.Prelude.{◌≡◌, ◌^◌, ◌<◌, ◌≤◌, ℕ,
 ghost use Rattle.fp_model.specs.Descriptor.{is_array_like, is_class_text, is_field_descriptor, kind_names, IsKindOf};
 ghost use Rattle.fp_model.specs.Interning.{Interned};
 ghost use Rattle.fp_model.specs.Thin.{class_name_at, passes};
-ghost use Rattle.fp_model.specs.NamedInstructions.{class_kind_names, field_texts, is_array_text, is_class_op, is_entry_text, is_field_op, member_at, texts_by, IsArrayAt, IsClassAt, IsFieldAt, IsMultiArrayAt, IsArrayInstr, IsClassInstr, IsClassKind, IsFieldInstr, IsMember, IsMultiArrayInstr, MemberTexts};
+ghost use Rattle.fp_model.specs.NamedInstructions.{class_kind_names, field_texts, is_array_text, is_class_op, is_entry_text, is_field_op, is_named_sound, member_at, named_texts, texts_by, IsArrayAt, IsClassAt, IsFieldAt, IsMultiArrayAt, IsArrayInstr, IsClassInstr, IsClassKind, IsFieldInstr, IsMember, IsMultiArrayInstr, IsNamedInstr, MemberTexts};
 ghost use Rattle.fp_model.specs.NamedInstructions as instructions;
 
 use crate::constants::{class_name, text};
@@ -291,5 +291,28 @@ pub fn multi_array_at(
     match class_name(entries, index) {
         Some(class) => multi_array_instr(alloc, dims, class, names),
         None => unreachable!(),
+    }
+}
+
+/// An instruction that takes names and calls nothing, by its opcode, the index behind it, and the number of dimensions
+/// behind that.
+pub fn named_instr(
+    alloc: Global,
+    entries: &[Entry],
+    op: u8,
+    index: u16,
+    dims: u8,
+    names: &mut Names,
+) -> Result<Instr, NameFault>
+    requires { is_named_sound entries.now op index ≡ true }
+    ensures instr { IfOk result (IsNamedInstr names.new entries.now op index dims) }
+    ensures names { Interned result names.old names.new (named_texts entries.now op index) }
+{
+    match op {
+        178..=181 => field_at(alloc, entries, op, index, names),
+        187 | 192 | 193 => class_at(alloc, entries, op, index, names),
+        189 => array_at(alloc, entries, index, names),
+        197 => multi_array_at(alloc, entries, index, dims, names),
+        _ => unreachable!(),
     }
 }

@@ -127,7 +127,10 @@ fn instructions(
 
 /// Decodes the `len` bytes of code at an offset of a file (JVMS SE 21 section 4.9.1).
 ///
-/// The file has fewer than 2^32 bytes, and the code lies in it. Where branches lead is not looked at.
+/// The file has fewer than 2^32 bytes, and the code lies in it. A fault is the first one in the order of the code, and is
+/// told by its offset in the file: `Opcode` and `Subroutine` at the opcode, `Truncated` at an operand, and then what the
+/// instruction asks for, `Bounds` at its opcode or `Index` at the index. `Memory` says nothing of the code. Where branches
+/// lead is not looked at.
 pub fn decode(
     alloc: Global,
     bytes: &[u8],
