@@ -16,6 +16,7 @@ pub mod EndedNames
 pub mod Interned
 pub mod LongerTables
 pub mod Many
+pub mod MethodKinds
 pub mod MethodParts
 pub mod MethodTypes
 pub mod OneKind
@@ -24,3 +25,4 @@ pub mod Soundness
 pub mod Steps
 pub mod Stops
 pub mod Takes
+pub mod Taking

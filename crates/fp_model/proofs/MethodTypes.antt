@@ -300,6 +300,13 @@ closes_stops (c ∷ rest) at some ne fails stops = closes-stops c rest at ne fai
 
 -- ---- a result
 
+result_cons : (c : ℕ) (rest : List ℕ) → c ≢ 86 → is_result (c ∷ rest) ≡ is_field_descriptor (c ∷ rest)
+result_cons c rest ne = grind (arith, ne_eqb c 86 ne)
+
+pub result_same : (text : List ℕ) → get_or text 0 0 ≢ 86 → is_result text ≡ is_field_descriptor text
+result_same [] ne = refl
+result_same (c ∷ rest) ne = result_cons c rest ne
+
 pub result_other : (text : List ℕ) (at : ℕ) → get_or text 0 0 ≢ 86 → StopsAt is_field_descriptor text at → StopsAt is_result text at
 result_other text at ne stops = record {
   within = stops.within;
@@ -307,34 +314,27 @@ result_other text at ne stops = record {
       let on = stops.before in
       (on.0, or_left (is_field_descriptor (take at text ++ on.0)) (bytes_eq (take at text ++ on.0) (codes "V")) on.1);
   after = λ lt on. stops.after lt (on.0, sym (same text ne (at + 1) on.0 (omega arith) (omega (arith, lt))) ∙ on.1);
-  whole = λ e. same_all text ne ∙ stops.whole e;
+  whole = λ e. result_same text ne ∙ stops.whole e;
 }
   where
-    other : (c : ℕ) (rest : List ℕ) → c ≢ 86 → is_result (c ∷ rest) ≡ is_field_descriptor (c ∷ rest)
-    other c rest ne = grind (arith, ne_eqb c 86 ne)
-
-    same_all : (text : List ℕ) → get_or text 0 0 ≢ 86 → is_result text ≡ is_field_descriptor text
-    same_all [] ne = refl
-    same_all (c ∷ rest) ne = other c rest ne
-
     same : (text : List ℕ) → get_or text 0 0 ≢ 86 → (n : ℕ) (more : List ℕ) → 0 < n → 0 < length text → is_result (take n text ++ more) ≡ is_field_descriptor (take n text ++ more)
     same [] ne n more some there = absurd (omega arith)
     same (c ∷ rest) ne zero more some there = absurd (omega arith)
-    same (c ∷ rest) ne (suc n) more some there = other c (take n rest ++ more) ne
+    same (c ∷ rest) ne (suc n) more some there = result_cons c (take n rest ++ more) ne
 
 pub result_others : (text : List ℕ) (place : Option ℕ) → get_or text 0 0 ≢ 86 → IfSome place (StopsAt is_field_descriptor text) → IfSome place (StopsAt is_result text)
 result_others text None ne stops = tt
 result_others text (Some at) ne stops = result_other text at ne stops
 
+pub result_void_more : (x : ℕ) (more : List ℕ) → is_result (86 ∷ x ∷ more) ≡ false
+result_void_more x more =
+    let none : is_field_descriptor (86 ∷ x ∷ more) ≡ false = is_field_descriptor-brackets 0 (86 ∷ x ∷ more) (dimensions-other 86 (x ∷ more) refl) ∙ and_right (nat_le 0 255) (is_element (86 ∷ x ∷ more)) refl in
+    ap (λ b. b || bytes_eq (86 ∷ x ∷ more) (codes "V")) none
+
 pub result_more : (text : List ℕ) → 1 < length text → get_or text 0 0 ≡ 86 → StopsAt is_result text 1
 result_more [] some is = absurd (omega arith)
 result_more (c ∷ []) some is = absurd (omega arith)
-result_more (c ∷ x ∷ rest) some is = subst (λ c. StopsAt is_result (c ∷ x ∷ rest) 1) (sym is) (StopsAt-byte is_result (86 ∷ []) x rest ([], refl) (λ more. void x more))
-  where
-    void : (x : ℕ) (more : List ℕ) → is_result (86 ∷ x ∷ more) ≡ false
-    void x more =
-        let none : is_field_descriptor (86 ∷ x ∷ more) ≡ false = is_field_descriptor-brackets 0 (86 ∷ x ∷ more) (dimensions-other 86 (x ∷ more) refl) ∙ and_right (nat_le 0 255) (is_element (86 ∷ x ∷ more)) refl in
-        ap (λ b. b || bytes_eq (86 ∷ x ∷ more) (codes "V")) none
+result_more (c ∷ x ∷ rest) some is = subst (λ c. StopsAt is_result (c ∷ x ∷ rest) 1) (sym is) (StopsAt-byte is_result (86 ∷ []) x rest ([], refl) (λ more. result_void_more x more))
 
 pub result_one : (text : List ℕ) → length text ≡ 1 → get_or text 0 0 ≡ 86 → is_result text ≡ true
 result_one [] one is = absurd (omega arith)

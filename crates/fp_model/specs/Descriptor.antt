@@ -63,6 +63,11 @@ abbrev pub TellsPlace : List ℕ → DescrFault → Type 0
 TellsPlace text (fault.Bad at) = IsBadAt text at
 TellsPlace text _ = ⊥
 
+-- the same of texts that pass another test
+abbrev pub TellsPlaceOf : (List ℕ → Bool) → List ℕ → DescrFault → Type 0
+TellsPlaceOf test text (fault.Bad at) = StopsAt test text at
+TellsPlaceOf test text _ = ⊥
+
 -- the text begins like an array type
 abbrev pub is_array_like : List ℕ → Bool
 is_array_like text = nat_lt 0 (dimensions text)
@@ -185,3 +190,23 @@ pub record IsDescrOf (names : List (List ℕ)) (text : List ℕ) (d : Descr) : T
   pub written : descr_text names d ≡ text
   pub args : IsTrue (list_all (is_kind names) d.args)
   pub result : IfSome d.result (λ k. IsTrue (is_kind names k))
+
+-- the place is that of the ')': before it there are a '(' and the parameters, and behind it there is a result
+pub record IsParametersEnd (text : List ℕ) (end : ℕ) : Type 0 where
+  pub within : end < length text
+  pub front : take end text ≡ 40 ∷ flat_map (λ field. field) (parameters text)
+  pub closing : slice_index text end ≡ 41
+  pub result : is_result (drop (end + 1) text) ≡ true
+
+-- the text of a method's result
+abbrev pub result_of : List ℕ → List ℕ
+result_of text = drop (length (flat_map (λ field. field) (parameters text)) + 2) text
+
+-- the class names in a method descriptor
+abbrev pub descr_names : List ℕ → List (List ℕ)
+descr_names text = flat_map kind_names (parameters text) ++ kind_names (result_of text)
+
+-- the kind of a result, none for 'V', is what its text says
+pub record IsResultOf (names : List (List ℕ)) (text : List ℕ) (k : Option Kind) : Type 0 where
+  pub written : result_text names k ≡ text
+  pub kind : IfSome k (λ k. IsTrue (is_kind names k))

@@ -11,4 +11,5 @@ pub mod Pool
 pub mod Reading
 pub mod References
 pub mod Spelling
+pub mod Taking
 pub mod Thin

@@ -14,7 +14,9 @@ pub use class::instr::{BootArg, BootRef, Instr};
 pub use class::{Class, ClassId, Code, Field, FieldId, Guard, Method, MethodId, SiteId};
 pub use class_set::fault::SetFault;
 pub use class_set::{ClassSet, law_refused, law_sound};
-pub use descriptor::{DescrFault, arg_words, is_descr, is_kind, law_one_kind, read_kind};
+pub use descriptor::{
+    DescrFault, arg_words, is_descr, is_kind, law_one_kind, read_descr, read_kind,
+};
 pub use fault::FileFault;
 pub use form::Form;
 pub use kind::{Descr, Elem, Kind, Sort};

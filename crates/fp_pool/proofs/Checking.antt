@@ -7,9 +7,9 @@ use Rattle.fp_model.specs.Reading.{Fails}
 use Rattle.fp_model.specs.References.{each_checked}
 use Rattle.fp_model.proofs.Many.{Fails-bind}
 
-module _ {A : Type 0} (spelled : A → List ℕ) (check : ℕ → A → Result (Unit {0}) FileFault) (xs : List A) (i at : ℕ) (x : A) (lt : i < length xs) (is : get_or xs i x ≡ x) where
+module _ {A : Type 0} (spelled : A → List ℕ) (check : ℕ → A → Result (Unit {0}) FileFault) (xs : List A) (i at : ℕ) (x : A) (lt : i < length xs) (is : x ≡ get_or xs i x) where
   here : drop i xs ≡ x ∷ drop (i + 1) xs
-  here = rw add-one (drop-cons xs i x lt ∙ ap (λ y. y ∷ drop (suc i) xs) is)
+  here = rw add-one (drop-cons xs i x lt ∙ ap (λ y. y ∷ drop (suc i) xs) (sym is))
 
   -- the loop goes on behind a thing that passed
   pub each-next : check at x ≡ Ok tt → each_checked spelled check at (drop i xs) ≡ each_checked spelled check (at + length (spelled x)) (drop (i + 1) xs)

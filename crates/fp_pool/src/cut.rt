@@ -39,12 +39,7 @@ fn pool(alloc: Global, bytes: &[u8], at: u32) -> Result<(Pool, u32), FileFault>
 }
 
 /// What so many indexes hold.
-fn slots(
-    alloc: Global,
-    bytes: &[u8],
-    at: u32,
-    count: u16,
-) -> Result<(Items<Entry>, u32), FileFault>
+fn slots(alloc: Global, bytes: &[u8], at: u32, count: u16) -> Result<(Items<Entry>, u32), FileFault>
     requires short { length bytes.now < 2 ^ 32 }
     requires some { 0 < count }
     ensures { Gives result (format.slots_at (count - 1) count [] true bytes.now at) }

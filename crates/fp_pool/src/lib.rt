@@ -11,3 +11,6 @@ mod sorts;
 pub use cut::cut_pool;
 pub use reader::read_pool;
 pub use references::check_references;
+
+#[cfg(test)]
+mod tests;

@@ -35,11 +35,7 @@ pub fn check_references(alloc: Global, entries: &[Entry], at: u32) -> Result<(),
 }
 
 /// Checks each entry in turn.
-fn check_entries(
-    entries: &[Entry],
-    marks: &[Option<Sorts>],
-    at: u32,
-) -> Result<(), FileFault>
+fn check_entries(entries: &[Entry], marks: &[Option<Sorts>], at: u32) -> Result<(), FileFault>
     requires marks { marks.now ≡ sort_marks entries.now }
     requires short { at + length (flat_map spelled_entry entries.now) < 2 ^ 32 }
     ensures { Gives result (format.entries_checked entries.now at entries.now) }

@@ -91,18 +91,14 @@ fn len_of_first(text: &[u8]) -> Result<usize, usize>
 }
 
 /// So many bytes of a text, or all of them.
-fn front(text: &[u8], len: usize) -> &[u8]
+pub fn front(text: &[u8], len: usize) -> &[u8]
     ensures { result.now ≡ take len text.now }
 {
-    if len < text.len() {
-        &text[..len]
-    } else {
-        text
-    }
+    if len < text.len() { &text[..len] } else { text }
 }
 
 /// How many bytes a field descriptor takes at the front of a text.
-fn count_field(text: &[u8]) -> usize
+pub fn count_field(text: &[u8]) -> usize
     ensures { result ≡ field_len text.now }
 {
     let dims = count_dimensions(text);

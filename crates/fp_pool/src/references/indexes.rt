@@ -38,12 +38,7 @@ fn check_tag(entries: &[Entry], wanted: u8, at: u32, index: u16) -> Result<(), F
 
 /// Checks an index of a text, of which it is known whether it is what is asked for.
 #[tactic(auto, unfolding(fp_model::specs::References::text_checked))]
-pub fn check_text(
-    entries: &[Entry],
-    at: u32,
-    index: u16,
-    passed: bool,
-) -> Result<(), FileFault>
+pub fn check_text(entries: &[Entry], at: u32, index: u16, passed: bool) -> Result<(), FileFault>
     ensures { (test : List ℕ → Bool) → passed ≡ format.holds_of test (text_at entries.now index)
         → Gives result (format.text_checked entries.now test at index) }
 {
@@ -57,12 +52,7 @@ pub fn check_text(
 
 /// Checks an index of a name and type, of whose descriptor it is known whether it is what is asked for.
 #[tactic(auto, unfolding(fp_model::specs::References::pair_described))]
-pub fn check_pair(
-    entries: &[Entry],
-    at: u32,
-    pair: u16,
-    passed: bool,
-) -> Result<(), FileFault>
+pub fn check_pair(entries: &[Entry], at: u32, pair: u16, passed: bool) -> Result<(), FileFault>
     ensures { (test : List ℕ → Bool) → passed ≡ format.holds_of test (format.descr_at entries.now pair)
         → Gives result (format.pair_described entries.now test at pair) }
 {
@@ -118,10 +108,7 @@ pub fn check_handle(entries: &[Entry], at: u32, kind: u8, index: u16) -> Result<
         return Err(FileFault::Bounds { at: at + 1 });
     }
     if !suits_handle(kind, tag(entries, index)) {
-        return Err(FileFault::Index {
-            at: at + 2,
-            index,
-        });
+        return Err(FileFault::Index { at: at + 2, index });
     }
     Ok(())
 }
