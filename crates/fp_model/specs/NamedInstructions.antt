@@ -6,7 +6,7 @@ use Rattle.fp_model.specs.declared.kind.Kind.{Kind}
 use Rattle.fp_model.specs.declared.kind.Kind.TheVariants as kind
 use Rattle.fp_model.specs.declared.raw.pool.Entry.{Entry}
 use Rattle.fp_model.specs.declared.raw.pool.Entry.TheVariants as entry
-use Rattle.fp_model.specs.Descriptor.{is_array_like, is_class_text, is_field_descriptor, kind_names, IsKindOf}
+use Rattle.fp_model.specs.Descriptor.{is_array_like, is_class_text, is_field_descriptor, descr_names, kind_names, IsDescrOf, IsKindOf}
 use Rattle.fp_model.specs.Thin.{passes, text_at, class_name_at}
 
 -- the texts of a reference to a member (section 4.4.2)
@@ -149,3 +149,24 @@ pub record IsNamedInstr (names : List (List ℕ)) (entries : List Entry) (op ind
   pub class : is_class_op op ≡ true → IsClassAt names entries op index i
   pub array : op ≡ 189 → IsArrayAt names entries index i
   pub multi_array : op ≡ 197 → IsMultiArrayAt names entries index dims i
+
+-- ---- calls
+
+-- the opcodes of calls of methods by their references
+abbrev pub is_call_op : ℕ → Bool
+is_call_op op = nat_le 182 op && nat_le op 185
+
+-- a call of a method, by its opcode and the texts of its reference
+abbrev pub IsCallInstr : List (List ℕ) → ℕ → MemberTexts → Instr → Type 0
+IsCallInstr names op texts (instr.InvokeVirtual class name descr kinds) = (op ≡ 182) × IsMember names texts class name descr × IsDescrOf names texts.descr kinds
+IsCallInstr names op texts (instr.InvokeSpecial class name descr kinds) = (op ≡ 183) × IsMember names texts class name descr × IsDescrOf names texts.descr kinds
+IsCallInstr names op texts (instr.InvokeStatic class name descr kinds) = (op ≡ 184) × IsMember names texts class name descr × IsDescrOf names texts.descr kinds
+IsCallInstr names op texts (instr.InvokeInterface class name descr kinds) = (op ≡ 185) × IsMember names texts class name descr × IsDescrOf names texts.descr kinds
+IsCallInstr names op texts _ = ⊥
+
+-- the texts that a call takes
+abbrev pub call_texts : MemberTexts → List (List ℕ)
+call_texts texts = texts.class ∷ (texts.name ∷ (texts.descr ∷ descr_names texts.descr))
+
+abbrev pub IsCallAt : List (List ℕ) → List Entry → (op index : ℕ) → Instr → Type 0
+IsCallAt names entries op index i = IsOf (λ texts. IsCallInstr names op texts i) (member_at entries index)

@@ -8,12 +8,12 @@ unfolding places_after
 places_next before None targets place e = absurd (cc)
 places_next before (Some k) targets place e = elim (cases_Bool (ltb k 65536)) [
   | inl lt ↦
-    let is : Some k ≡ Some place = sym (cond-true _ _ _ lt) ∙ e in
-    let same : k ≡ place = cc in
-    cond-true _ _ _ lt ∙ ap (λ n. places_after (before ++ n ∷ []) targets) same
+      let is : Some k ≡ Some place = sym (cond-true _ _ _ lt) ∙ e in
+      let same : k ≡ place = cc in
+      cond-true _ _ _ lt ∙ ap (λ n. places_after (before ++ n ∷ []) targets) same
   | inr ge ↦
-    let none : None ≡ Some place = sym (cond-false _ _ _ ge) ∙ e in
-    absurd (cc)
+      let none : None ≡ Some place = sym (cond-false _ _ _ ge) ∙ e in
+      absurd (cc)
 ]
 
 pub places_none : (before : List ℕ) (target : Option ℕ) (targets : List (Option ℕ)) → short_place target ≡ None → places_after before (target ∷ targets) ≡ None
@@ -21,8 +21,8 @@ unfolding places_after
 places_none before None targets e = refl
 places_none before (Some k) targets e = elim (cases_Bool (ltb k 65536)) [
   | inl lt ↦
-    let is : Some k ≡ None = sym (cond-true _ _ _ lt) ∙ e in
-    absurd (cc)
+      let is : Some k ≡ None = sym (cond-true _ _ _ lt) ∙ e in
+      absurd (cc)
   | inr ge ↦ cond-false _ _ _ ge
 ]
 

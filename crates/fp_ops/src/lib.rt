@@ -2,6 +2,7 @@
 #![tactic(auto)]
 
 mod branches;
+mod calls;
 mod constants;
 mod forms;
 mod jumps;

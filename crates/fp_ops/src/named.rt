@@ -14,18 +14,18 @@ use std::alloc::Global;
 
 /// The texts of a reference to a member.
 #[derive(Clone, Copy)]
-struct Member<'a> {
-    class: &'a [u8],
-    name: &'a [u8],
-    descr: &'a [u8],
+pub struct Member<'a> {
+    pub class: &'a [u8],
+    pub name: &'a [u8],
+    pub descr: &'a [u8],
 }
 
 /// The numbers of the texts of a reference to a member.
 #[derive(Clone, Copy)]
-struct Numbers {
-    class: u32,
-    name: u32,
-    descr: u32,
+pub struct Numbers {
+    pub class: u32,
+    pub name: u32,
+    pub descr: u32,
 }
 
 /// The number of a text.
@@ -37,7 +37,7 @@ fn number(alloc: Global, text: &[u8], names: &mut Names) -> Result<u32, NameFaul
 }
 
 /// The numbers of the texts of a reference to a member.
-fn number_all(
+pub fn number_all(
     alloc: Global,
     class: &[u8],
     name: &[u8],
@@ -122,12 +122,7 @@ fn field_access(op: u8, numbers: Numbers, kind: Kind) -> Instr
 }
 
 /// An access to a field, by its opcode and the texts of its reference.
-fn field_instr(
-    alloc: Global,
-    op: u8,
-    texts: Member,
-    names: &mut Names,
-) -> Result<Instr, NameFault>
+fn field_instr(alloc: Global, op: u8, texts: Member, names: &mut Names) -> Result<Instr, NameFault>
     requires op { is_field_op op ≡ true }
     requires descr { is_field_descriptor texts.descr.now ≡ true }
     requires short { length texts.descr.now < 2 ^ 31 }
@@ -140,7 +135,7 @@ fn field_instr(
 }
 
 /// The texts of the reference to a member at an index.
-fn texts_of(entries: &[Entry], index: u16) -> Option<Member<'_>>
+pub fn texts_of(entries: &[Entry], index: u16) -> Option<Member<'_>>
     ensures some { IfSome result (λ m. member_at entries.now index ≡ Some (record { class = m.class.now; name = m.name.now; descr = m.descr.now })) }
     ensures none { IfNone result (member_at entries.now index ≡ None) }
 {

@@ -32,7 +32,7 @@ loop-left-preserved c =
     record {
       at = grind arith;
       rest = rw c.in_ok-push-2.ensures.items (sym (ap (places_after c.loop-left.to.items) (far_targets-next c.args.pc c.args.step c.args.args.now c.args.count c.loop-left._left c.loop-left.at c.loop-left-test.true)
-        ∙ places_next c.loop-left.to.items (far_target c.args.pc c.args.args.now c.loop-left.at) (far_targets c.args.pc c.args.step c.args.args.now (c.args.count - (c.loop-left._left + 1)) (c.loop-left.at + c.args.step)) c.in-Some-short.place some) ∙ c.loop-left.invariant.rest);
+          ∙ places_next c.loop-left.to.items (far_target c.args.pc c.args.args.now c.loop-left.at) (far_targets c.args.pc c.args.step c.args.args.now (c.args.count - (c.loop-left._left + 1)) (c.loop-left.at + c.args.step)) c.in-Some-short.place some) ∙ c.loop-left.invariant.rest);
     }
 
 pub returns : goal.returns
