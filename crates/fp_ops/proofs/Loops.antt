@@ -1,8 +1,8 @@
 -- Loops that read one thing after the other.
-use Rattle.std.proofs.Common.{◌≡◌, ℕ, suc, ◌+◌, ◌-◌, ◌<◌, ◌≤◌, List, [], ◌∷◌, ◌++◌, Bool, true, false, cond, length, leb, Result, Ok, refl, arith}
+use Rattle.std.proofs.Common.{◌≡◌, ℕ, suc, ◌+◌, ◌-◌, ◌<◌, ◌≤◌, List, [], ◌∷◌, ◌++◌, length, Result, Ok, refl, arith}
 use Rattle.std.proofs.lemmas.Bool.{le-leb, lt-leb}
 use Rattle.fp_model.specs.declared.fault.FileFault.{FileFault}
-use Rattle.fp_model.specs.Reading.{◌>>=◌, Fails}
+use Rattle.fp_model.specs.Reading.{Fails}
 use Rattle.fp_model.specs.Decoding.{pair_at, pairs_end, all_at}
 use Rattle.fp_model.proofs.Many.{Fails-bind}
 

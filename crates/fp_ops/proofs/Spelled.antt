@@ -1,5 +1,5 @@
 -- What is decoded is spelled there.
-use Rattle.std.proofs.Common.{◌≡◌, ◌⊎◌, inl, inr, ℕ, zero, suc, ◌+◌, ◌-◌, ◌<◌, ◌≤◌, List, [], ◌∷◌, ◌++◌, Bool, true, false, cond, length, leb, eqb, take, drop, min, Result, Ok, Err, IfOk, refl, sym, ap, ◌∙◌, subst, arith}
+use Rattle.std.proofs.Common.{◌≡◌, inl, inr, ℕ, zero, suc, ◌+◌, ◌-◌, ◌<◌, ◌≤◌, List, [], ◌∷◌, ◌++◌, true, false, length, leb, eqb, take, drop, min, Result, Ok, Err, IfOk, sym, ap, ◌∙◌, subst, arith}
 use Rattle.std.proofs.lemmas.Bool.{leb-true, eqb-true, cases_Bool, cond-true, cond-false}
 use Rattle.std.proofs.lemmas.List.{append-nil, append_assoc, drop_all, drop-take, length-take}
 use Rattle.std.specs.List.{flat_map}
@@ -8,7 +8,7 @@ use Rattle.fp_model.specs.declared.fault.FileFault.{FileFault}
 use Rattle.fp_model.specs.declared.form.Form.{Form}
 use Rattle.fp_model.specs.declared.raw.pool.Entry.{Entry}
 use Rattle.fp_model.specs.declared.raw.attribute.RawIns.{RawIns}
-use Rattle.fp_model.specs.Reading.{◌>>=◌, Gives, number_at, bytes_at}
+use Rattle.fp_model.specs.Reading.{Gives, number_at, bytes_at}
 use Rattle.fp_model.specs.Spelling.{u1, spelled_ins}
 use Rattle.fp_model.specs.Form.{form_of}
 use Rattle.fp_model.specs.Decoding.{operands_end, wide_end, padding_len, plain_at, widened_at, ins_at, all_at, decoded}

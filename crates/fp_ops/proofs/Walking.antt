@@ -1,17 +1,14 @@
 -- Walks over instructions with the place of each, and the targets of their branches.
-use Rattle.std.proofs.Common.{◌≡◌, ◌⊎◌, inl, inr, ℕ, zero, suc, ◌+◌, ◌-◌, ◌*◌, ◌<◌, ◌≤◌, List, [], ◌∷◌, ◌++◌, Bool, true, false, cond, ◌&&◌, ◌||◌, ◌==◌, length, eqb, get_or, set, drop, Option, Some, None, Result, Ok, Err, refl, sym, ap, ◌∙◌, subst, add-one, arith}
+use Rattle.std.proofs.Common.{◌≡◌, inl, inr, ℕ, suc, ◌+◌, ◌-◌, ◌<◌, ◌≤◌, List, [], ◌∷◌, Bool, true, false, ◌&&◌, ◌||◌, ◌==◌, length, get_or, set, drop, Option, Some, None, Result, Ok, Err, refl, sym, ap, ◌∙◌, add-one, arith}
 use Rattle.std.proofs.Math.Seq.{drop-cons}
 use Rattle.std.proofs.lemmas.Bool.{cases_Bool, cases_eq, eq-eqb, ne_eqb}
 use Rattle.std.proofs.lemmas.List.{get_or-set_same, get_or-set_other, length-append, drop_all}
 use Rattle.std.specs.List.{flat_map, list_all}
 use Rattle.fp_model.specs.declared.fault.FileFault.{FileFault}
-use Rattle.fp_model.specs.declared.fault.FileFault.TheVariants as fault
 use Rattle.fp_model.specs.declared.raw.attribute.RawIns.{RawIns}
-use Rattle.fp_model.specs.Reading.{◌>>=◌, demanded}
 use Rattle.fp_model.specs.Spelling.{spelled_ins}
 use Rattle.fp_model.specs.Thin.{passes}
-use Rattle.fp_model.specs.Form.{form_of}
-use Rattle.fp_model.specs.Branches.{far_target, far_targets, leads_to, starts_at, targets_of}
+use Rattle.fp_model.specs.Branches.{far_target, far_targets, starts_at}
 use Rattle.fp_model.specs.References.{each_checked}
 use Rattle.fp_ops.specs.Marks.{is_marked}
 

@@ -1,12 +1,11 @@
-use Rattle.std.proofs.Common.{◌≡◌, ◌-◌, ◌+◌, ℕ, true, false, ◌∙◌, sym, ap, arith}
-use Rattle.fp_model.specs.declared.raw.attribute.RawIns.{RawIns}
+use Rattle.std.proofs.Common.{◌≡◌, ◌-◌, true, false, ◌∙◌, sym, ap, arith}
 use Rattle.fp_model.specs.declared.fault.FileFault.TheVariants as fault
 use Rattle.fp_model.specs.Form.{form_of}
 use Rattle.fp_model.specs.Reading.{demanded}
 use Rattle.fp_model.specs.Spelling.{spelled_ins}
 use Rattle.fp_model.specs.Branches.{leads_to, starts_at, targets_of}
 use Rattle.fp_ops.specs.Marks.{is_marked}
-use Rattle.fp_ops.proofs.Walking.{left_size, none_left, agree_on, each_next, each_err, each_end}
+use Rattle.fp_ops.proofs.Walking.{left_size, agree_on, each_next, each_err, each_end}
 use Rattle.fp_ops.proofs.branches.check_each.Goals as goal
 
 pub returns-then-not-leads_to_starts : goal.returns-then-not-leads_to_starts

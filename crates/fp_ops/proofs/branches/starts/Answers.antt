@@ -1,5 +1,5 @@
 use Rattle.std.proofs.Common.{◌<◌, length, arith}
-use Rattle.fp_ops.proofs.Walking.{left_size, none_left, some_size, marks_next, marks_end}
+use Rattle.fp_ops.proofs.Walking.{left_size, some_size, marks_next, marks_end}
 use Rattle.fp_ops.proofs.branches.starts.Goals as goal
 
 pub index_mut-requires : goal.index_mut-requires

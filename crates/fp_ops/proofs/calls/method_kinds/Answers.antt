@@ -1,4 +1,4 @@
-use Rattle.std.proofs.Common.{◌≡◌, Err, ap}
+use Rattle.std.proofs.Common.{Err, ap}
 use Rattle.fp_model.specs.Descriptor.{descr_names, is_method_descriptor}
 use Rattle.fp_model.proofs.Taking.{taken_ok}
 use Rattle.fp_ops.proofs.NamedParts.{not_bad}

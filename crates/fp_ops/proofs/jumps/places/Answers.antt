@@ -1,4 +1,4 @@
-use Rattle.std.proofs.Common.{◌≡◌, ◌+◌, ◌-◌, ℕ, List, [], ◌∷◌, ◌++◌, Option, Some, None, ◌∙◌, sym, ap, refl, arith}
+use Rattle.std.proofs.Common.{◌≡◌, ◌+◌, ◌-◌, [], Some, None, ◌∙◌, sym, ap, arith}
 use Rattle.fp_model.specs.Branches.{far_target, far_targets}
 use Rattle.fp_model.specs.Instructions.{places_after, short_place}
 use Rattle.fp_ops.proofs.Places.{places_next, places_none, places_end}

@@ -1,4 +1,4 @@
-use Rattle.std.proofs.Common.{◌≡◌, Err, ap}
+use Rattle.std.proofs.Common.{Err, ap}
 use Rattle.fp_model.specs.Descriptor.{is_field_descriptor, kind_names}
 use Rattle.fp_model.proofs.Interned.{interned_ok}
 use Rattle.fp_ops.proofs.NamedParts.{not_bad}
