@@ -14,6 +14,7 @@ mod Tables
 pub mod ArrayTypes
 pub mod ElementTexts
 pub mod EndedNames
+pub mod Interned
 pub mod LongerTables
 pub mod Many
 pub mod OneClass

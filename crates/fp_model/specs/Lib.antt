@@ -1,7 +1,13 @@
+pub mod Branches
 pub mod Classes
 pub mod ClassSet
+pub mod Decoding
 pub mod Descriptor
 pub mod Limits
+pub mod Form
+pub mod Instructions
+pub mod Interning
+pub mod NamedInstructions
 pub mod Pool
 pub mod Reading
 pub mod References

@@ -5,6 +5,7 @@ mod class;
 mod class_set;
 mod descriptor;
 mod fault;
+mod form;
 mod kind;
 mod limit;
 mod raw;
@@ -19,6 +20,7 @@ pub use descriptor::{
     DescrFault, arg_words, is_descr, is_kind, law_one_kind, read_descr, read_kind,
 };
 pub use fault::FileFault;
+pub use form::Form;
 pub use kind::{Descr, Elem, Kind, Sort};
 pub use limit::LimitName;
 pub use raw::attribute::{BootRow, CatchRow, RawAttr, RawBody, RawCode, RawIns};

@@ -1,0 +1,5 @@
+mod Loops
+mod Spelled
+mod Walking
+mod Places
+mod NamedParts

@@ -1,0 +1,20 @@
+//! Decodes instructions, and tells the form of each (JVMS SE 21 chapter 6).
+#![tactic(auto)]
+
+mod branches;
+mod calls;
+mod constants;
+mod forms;
+mod jumps;
+mod named;
+mod operands;
+mod plain;
+mod reading;
+mod switches;
+
+pub use branches::check_targets;
+pub use forms::operands_of;
+pub use reading::decode;
+
+#[cfg(test)]
+mod tests;
