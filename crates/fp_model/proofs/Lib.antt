@@ -15,6 +15,7 @@ pub mod ElementTexts
 pub mod EndedNames
 pub mod LongerTables
 pub mod Many
+pub mod MethodGrammar
 pub mod MethodKinds
 pub mod MethodParts
 pub mod MethodTypes
