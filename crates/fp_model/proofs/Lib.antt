@@ -18,6 +18,7 @@ pub mod Interned
 pub mod LongerTables
 pub mod Many
 pub mod OneClass
+pub mod MethodGrammar
 pub mod MethodKinds
 pub mod MethodParts
 pub mod MethodTypes

@@ -6,7 +6,7 @@ use Rattle.std.proofs.lemmas.Bool.{and_parts, ne_eqb, both_ways, cases_lt}
 use Rattle.fp_model.specs.Descriptor.{closes_behind, field_len, fields_behind, first_field, is_field_descriptor, is_method_descriptor, is_result, parameters, words_of, words_of_all}
 use Rattle.fp_model.proofs.MethodTypes.{closes-skip, closes-step, field_fits, field_len-some, fields-skip}
 
-fields-step : (c : ℕ) (rest : List ℕ) → c ≢ 41 → fields_behind 0 (c ∷ rest) ≡ first_field (c ∷ rest) ∷ fields_behind 0 (drop (field_len (c ∷ rest)) (c ∷ rest))
+pub fields-step : (c : ℕ) (rest : List ℕ) → c ≢ 41 → fields_behind 0 (c ∷ rest) ≡ first_field (c ∷ rest) ∷ fields_behind 0 (drop (field_len (c ∷ rest)) (c ∷ rest))
 unfolding fields_behind
 fields-step c rest ne =
     let some : (k : ℕ) × (field_len (c ∷ rest) ≡ suc k) = (field_len (c ∷ rest) - 1, let one = field_len-some (c ∷ rest) in omega (arith, one)) in

@@ -170,7 +170,7 @@ closes-step c rest ne =
     ap (λ b. cond b (is_result rest) (is_field_descriptor (first_field (c ∷ rest)) && closes_behind (field_len (c ∷ rest) - 1) rest)) (ne_eqb c 41 ne)
     ∙ ap (λ b. is_field_descriptor (first_field (c ∷ rest)) && b) behind
 
-not_closing : (c : ℕ) (rest : List ℕ) → is_field_descriptor (c ∷ rest) ≡ true → c ≢ 41
+pub not_closing : (c : ℕ) (rest : List ℕ) → is_field_descriptor (c ∷ rest) ≡ true → c ≢ 41
 not_closing c rest passes is =
     let closing : is_field_descriptor (41 ∷ rest) ≡ false = is_field_descriptor-brackets 0 (41 ∷ rest) (dimensions-other 41 rest refl) ∙ and_right (nat_le 0 255) (is_element (41 ∷ rest)) refl in
     both_ways (is_field_descriptor (c ∷ rest)) (ap (λ c. is_field_descriptor (c ∷ rest)) is ∙ closing) passes

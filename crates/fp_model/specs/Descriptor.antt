@@ -210,3 +210,15 @@ descr_names text = flat_map kind_names (parameters text) ++ kind_names (result_o
 pub record IsResultOf (names : List (List ℕ)) (text : List ℕ) (k : Option Kind) : Type 0 where
   pub written : result_text names k ≡ text
   pub kind : IfSome k (λ k. IsTrue (is_kind names k))
+
+-- the grammar of method descriptors: '(', the field descriptors of the parameters, ')', and a result
+pub record IsMethodOf (text : List ℕ) (fields : List (List ℕ)) (last : List ℕ) : Type 0 where
+  pub written : text ≡ 40 ∷ (flat_map (λ field. field) fields ++ (41 ∷ last))
+  pub all_fields : IsTrue (list_all is_field_descriptor fields)
+  pub passes : IsTrue (is_result last)
+
+-- what the parts of a method descriptor are, where it has these
+pub record TellsParts (text : List ℕ) (fields : List (List ℕ)) (last : List ℕ) : Type 0 where
+  pub passes : is_method_descriptor text ≡ true
+  pub fields_are : parameters text ≡ fields
+  pub result_is : result_of text ≡ last

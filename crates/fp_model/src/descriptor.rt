@@ -8,7 +8,7 @@ ghost use Rattle.std.specs.Prelude.{◌≡◌};
 ghost use Rattle.fp_model.specs.Descriptor.{is_field_descriptor};
 
 pub use fault::DescrFault;
-pub use method::{arg_words, is_descr};
+pub use method::{arg_words, is_descr, law_method_descriptor};
 pub use method_reading::read_descr;
 use place::bad_place;
 pub use reading::{law_one_kind, read_kind};

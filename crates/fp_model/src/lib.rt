@@ -17,7 +17,8 @@ pub use class::{Class, ClassId, Code, Field, FieldId, Guard, Method, MethodId, S
 pub use class_set::fault::SetFault;
 pub use class_set::{ClassSet, law_refused, law_sound};
 pub use descriptor::{
-    DescrFault, arg_words, is_descr, is_kind, law_one_kind, read_descr, read_kind,
+    DescrFault, arg_words, is_descr, is_kind, law_method_descriptor, law_one_kind, read_descr,
+    read_kind,
 };
 pub use fault::FileFault;
 pub use form::Form;

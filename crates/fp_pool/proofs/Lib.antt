@@ -1,3 +1,4 @@
+mod Again
 mod Checking
 mod Marks
 mod Slots

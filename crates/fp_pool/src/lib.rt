@@ -3,12 +3,14 @@
 
 mod cut;
 mod entry;
+mod laws;
 mod look_up;
 mod reader;
 mod references;
 mod sorts;
 
 pub use cut::cut_pool;
+pub use laws::law_spelled_pool;
 pub use reader::read_pool;
 pub use references::check_references;
 

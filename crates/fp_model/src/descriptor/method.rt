@@ -1,5 +1,5 @@
-ghost use Rattle.std.specs.Prelude.{◌≡◌, ◌^◌, ◌<◌, ◌≤◌, [], ◌∷◌, length, take, false, true, IfSome, IfNone, IfOk, IfErr};
-ghost use Rattle.fp_model.specs.Descriptor.{element_len, field_len, first_field, is_field_descriptor, is_method_descriptor, is_result, parameter_words, parameters, words_of, words_of_all, StopsAt};
+ghost use Rattle.std.specs.Prelude.{◌≡◌, ℕ, List, ◌^◌, ◌<◌, ◌≤◌, [], ◌∷◌, length, take, false, true, IfSome, IfNone, IfOk, IfErr};
+ghost use Rattle.fp_model.specs.Descriptor.{element_len, field_len, first_field, is_field_descriptor, is_method_descriptor, is_result, parameter_words, parameters, words_of, words_of_all, result_of, IsMethodOf, StopsAt, TellsParts};
 
 use super::place::{bad_place, count_dimensions, count_name};
 
@@ -22,6 +22,14 @@ pub fn arg_words(text: &[u8]) -> Option<u32>
         None
     }
 }
+
+/// A law: a text is a method descriptor exactly where the grammar of section 4.3.3 makes it one, and then its parts
+/// are those of the grammar.
+pub fn law_method_descriptor()
+    ensures parts { (text : List ℕ) → is_method_descriptor text ≡ true → IsMethodOf text (parameters text) (result_of text) }
+    ensures whole { (text : List ℕ) (fields : List (List ℕ)) (last : List ℕ)
+        → IsMethodOf text fields last → TellsParts text fields last }
+{}
 
 /// The words of the parameters of a method descriptor.
 fn count_words(text: &[u8]) -> u32
