@@ -1,11 +1,10 @@
 -- Reading options, a pair of words at a time.
 use Rattle.std.proofs.Common.{◌≡◌, ℕ, ◌+◌, ◌-◌, ◌<◌, ◌≤◌, Bool, true, false, not, ◌&&◌, cond, is_some, Option, Some, None, List, [], ◌∷◌, length, take, drop, zero, suc, refl, sym, ap, ◌∙◌, arith, nat_lt, option_map}
-use Rattle.std.specs.Prelude.{option_and_then}
-use Rattle.std.specs.Prelude.{String, string_bytes}
+use Rattle.std.specs.Prelude.{String, option_and_then, string_bytes}
 use Rattle.std.specs.declared.alloc.Global.{Global}
 use Rattle.std.specs.List.{list_all}
 use Rattle.std.proofs.lemmas.Bool.{ltb-true, lt-ltb}
-use Rattle.std.proofs.lemmas.List.{take_all, drop-map, length-drop}
+use Rattle.std.proofs.lemmas.List.{take_all, drop-map, length-drop, length-map}
 use Rattle.fp_base.specs.Files.{texts}
 use Rattle.fp_words.specs.Asked.{word_at, has_option, has_values}
 use Rattle.fp_words.specs.Words.{Given, is_plain, options_of, with_option, run_of, run_with, one_worker, asked}
@@ -66,6 +65,12 @@ pub texts-from : (strings : List (String Global)) (at : ℕ) → texts (take (le
 texts-from strings at =
     let all : take (length strings - at) (drop at strings) ≡ drop at strings = take_all _ _ (omega (arith, length-drop {A = String Global})) in
     ap texts all ∙ sym (drop-map string_bytes at strings)
+
+-- where no option stands, the options and the strings from there on are those of the words
+pub options-rest : (given : Given) (strings : List (String Global)) (at : ℕ) (all : Option (Given × List (List ℕ))) → at ≤ length strings → has_option (texts strings) at ≡ false → options_of given (drop at (texts strings)) ≡ all → Some (given, texts (take (length strings - at) (drop at strings))) ≡ all
+options-rest given strings at all within none is =
+    let long : length (texts strings) ≡ length strings = length-map strings string_bytes in
+    ap (λ rest. Some (given, rest)) (texts-from strings at) ∙ sym (options-end given (texts strings) at (omega arith) (no_option-here (texts strings) at none)) ∙ is
 
 -- ---- what the words after the options are
 

@@ -1,10 +1,10 @@
-use Rattle.std.proofs.Common.{◌≡◌, length, ap, sym, ◌∙◌, true, false, Some, None, arith, rules, option_map}
+use Rattle.std.proofs.Common.{◌≡◌, length, ap, sym, ◌∙◌, true, Some, None, arith, rules, option_map}
 use Rattle.std.proofs.lemmas.List.{length-map}
 use Rattle.std.specs.Prelude.{string_bytes}
 use Rattle.fp_base.specs.Files.{texts}
 use Rattle.fp_words.specs.Asked.{given_of, has_option, parts_of}
 use Rattle.fp_words.specs.Words.{with_option}
-use Rattle.fp_words.proofs.GrammarLemmas.{option-taken, option-refused, option-here, no_option-here, options-end, texts-from}
+use Rattle.fp_words.proofs.GrammarLemmas.{option-taken, option-refused, option-here, options-rest}
 use Rattle.fp_words.proofs.grammar.read_options.Goals as goal
 
 pub loop-given-preserved : goal.loop-given-preserved
@@ -22,8 +22,4 @@ returns-in_err-given c =
     ap (option_map parts_of) c.from_residual.ensures ∙ sym (option-refused (given_of c.loop-given.given) (texts c.args.words.now) c.loop-given.at _ _ here c.word_at.ensures c.word_at-in-loop-given.ensures none) ∙ c.loop-given.invariant.1
 
 pub returns : goal.returns
-returns c =
-    let none : has_option (texts c.args.words.now) c.loop-given.at ≡ false = search rules in
-    let long : length (texts c.args.words.now) ≡ length c.args.words.now = length-map c.args.words.now string_bytes in
-    let end = options-end (given_of c.loop-given.given) (texts c.args.words.now) c.loop-given.at (omega arith) (no_option-here (texts c.args.words.now) c.loop-given.at none) in
-    ap (λ rest. Some (given_of c.loop-given.given, rest)) (texts-from c.args.words.now c.loop-given.at) ∙ sym end ∙ c.loop-given.invariant.1
+returns c = options-rest (given_of c.loop-given.given) c.args.words.now c.loop-given.at _ c.loop-given.invariant.0 (search rules) c.loop-given.invariant.1
