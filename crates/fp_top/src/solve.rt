@@ -1,7 +1,8 @@
 ghost use Rattle.std.specs.Prelude.{◌≡◌, false, Option, IfOk, IfErr};
 ghost use Rattle.fp_base.specs.Files.{texts};
 ghost use Rattle.fp_model.specs.ClassSet.{SetView};
-ghost use Rattle.fp_system.specs.Java.{SystemRefusal, TellsSystemRefusal};
+ghost use Rattle.fp_system.specs.Faults.{TellsSystemRefusal};
+ghost use Rattle.fp_system.specs.Java.{SystemRefusal};
 ghost use Rattle.fp_words.specs.Asked.{run_of_job};
 ghost use Rattle.fp_words.specs.Words.{RunAsked};
 ghost use Rattle.fp_top.specs.Outcome.{outcome_by, outcome_of_sound};
