@@ -93,5 +93,5 @@ abbrev pub run_asked : List (List ℕ) → Option RunAsked
 run_asked words = option_and_then (λ parts. run_of parts.0 parts.1) (options_of none_given words)
 
 -- what the words ask for, where they are of the grammar
-abbrev pub order_of : List (List ℕ) → Option Asked
+unfoldable pub order_of : List (List ℕ) → Option Asked
 order_of words = option_map Run (run_asked words)

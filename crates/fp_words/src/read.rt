@@ -17,6 +17,7 @@ use std::alloc::Global;
 ///
 /// # Errors
 /// `Usage` exactly where the words are not of this grammar. `Memory` where there is no memory to read them.
+#[tactic(auto, unfolding(crate::specs::Words::order_of))]
 pub fn read_words(alloc: Global, words: &[String]) -> Result<Order, WordsFault>
     ensures order { IfOk result (λ order. order_of (texts words.now) ≡ Some (asked_of order)) }
     ensures usage { IsErrOf result WordsFault.Usage → order_of (texts words.now) ≡ None }
