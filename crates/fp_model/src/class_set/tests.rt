@@ -259,75 +259,57 @@ fn cycle_of(fault: &Option<SetFault>) -> Option<&str> {
     }
 }
 
+/// The fault of a set of classes without members, by their names and superclasses.
+fn fault_of(
+    alloc: Global,
+    names: [u32; 4],
+    parents: [Option<u32>; 4],
+) -> Result<Option<SetFault>, Fail> {
+    let rows = [
+        bare(names[0], parents[0]),
+        bare(names[1], parents[1]),
+        bare(names[2], parents[2]),
+        bare(names[3], parents[3]),
+    ];
+    Ok(build(alloc, &rows)?.err())
+}
+
 #[test]
 fn namesakes_and_cycles_are_refused(rt: HostRuntime) -> Result<(), Fail> {
-    for (rows, duplicate, cycle) in [
+    for (names, parents, duplicate, cycle) in [
         (
-            [
-                bare(A, Some(B)),
-                bare(B, Some(C)),
-                bare(C, Some(E)),
-                bare(E, Some(OBJECT)),
-            ],
+            [A, B, C, E],
+            [Some(B), Some(C), Some(E), Some(OBJECT)],
             None,
             None,
         ),
+        ([B, A, B, A], [None; 4], Some("A"), None),
+        // By their bytes the names stand the other way round than escaped.
+        ([F, E, E, F], [None; 4], Some("\\xc3\\xa9"), None),
+        ([A, B, C, E], [None, Some(B), None, None], None, Some("B")),
         (
-            [bare(B, None), bare(A, None), bare(B, None), bare(A, None)],
-            Some("A"),
-            None,
-        ),
-        // The name of these bytes comes after the other, and its escaped name before.
-        (
-            [bare(F, None), bare(E, None), bare(E, None), bare(F, None)],
-            Some("\\xc3\\xa9"),
-            None,
-        ),
-        (
-            [
-                bare(A, None),
-                bare(B, Some(B)),
-                bare(C, None),
-                bare(E, None),
-            ],
-            None,
-            Some("B"),
-        ),
-        (
-            [
-                bare(B, Some(A)),
-                bare(A, Some(B)),
-                bare(C, None),
-                bare(E, None),
-            ],
+            [B, A, C, E],
+            [Some(A), Some(B), None, None],
             None,
             Some("A"),
         ),
         // The first class leads to a cycle, and lies on none.
         (
-            [
-                bare(A, Some(B)),
-                bare(C, Some(E)),
-                bare(B, Some(C)),
-                bare(E, Some(B)),
-            ],
+            [A, C, B, E],
+            [Some(B), Some(E), Some(C), Some(B)],
             None,
             Some("B"),
         ),
         (
-            [
-                bare(A, Some(B)),
-                bare(B, Some(A)),
-                bare(C, None),
-                bare(C, None),
-            ],
+            [A, B, C, C],
+            [Some(B), Some(A), None, None],
             Some("C"),
             None,
         ),
     ] {
-        let fault = build(rt.alloc(), &rows)?.err();
-        assert_eq!(rt; duplicate_of(&fault), duplicate);
-        assert_eq!(rt; cycle_of(&fault), cycle);
+        let fault = fault_of(rt.alloc(), names, parents)?;
+        assert_eq!(rt; duplicate_of(&fault), duplicate, "{names:?}");
+        assert_eq!(rt; cycle_of(&fault), cycle, "{names:?}");
         assert_eq!(rt; fault.is_none(), duplicate.is_none() && cycle.is_none());
     }
     Ok(())
