@@ -20,7 +20,7 @@ abbrev TakesNumber : Width → (ℕ → List ℕ) → List ℕ → Type 0
 TakesNumber width spelled bytes = (at : ℕ) (x : ℕ × ℕ) → number_at width bytes at ≡ Ok x → Takes bytes at (spelled x.0) x.1
 
 -- a case of a test
-either : {A P : Type 0} (b : Bool) (x y : A) {r : A} → (b ≡ true → x ≡ r → P) → (b ≡ false → y ≡ r → P) → cond b x y ≡ r → P
+pub either : {A P : Type 0} (b : Bool) (x y : A) {r : A} → (b ≡ true → x ≡ r → P) → (b ≡ false → y ≡ r → P) → cond b x y ≡ r → P
 either true x y f g e = f refl e
 either false x y f g e = g refl e
 
