@@ -1,6 +1,6 @@
 -- The texts of method descriptors are those of their grammar.
-use Rattle.std.proofs.Common.{◌≡◌, ℕ, zero, suc, ◌+◌, ◌-◌, ◌<◌, Bool, true, false, ◌&&◌, cond, List, [], ◌∷◌, ◌++◌, length, take, drop, refl, sym, ap, ◌∙◌, subst, arith, length-append}
-use Rattle.std.specs.Prelude.{◌==◌, slice_index, IsTrue}
+use Rattle.std.proofs.Common.{◌≡◌, ℕ, zero, suc, ◌+◌, ◌-◌, true, false, ◌&&◌, cond, List, [], ◌∷◌, ◌++◌, length, drop, refl, sym, ap, ◌∙◌, subst, arith}
+use Rattle.std.specs.Prelude.{◌==◌}
 use Rattle.std.specs.List.{flat_map, list_all}
 use Rattle.std.proofs.Math.Seq.{drop-append-add, drop-append_seam}
 use Rattle.std.proofs.lemmas.Bool.{and_parts, and_from, eqb-true}
@@ -105,4 +105,3 @@ made_parts fields last all passes =
 
 pub tells_parts : (text : List ℕ) (fields : List (List ℕ)) (last : List ℕ) → IsMethodOf text fields last → TellsParts text fields last
 tells_parts text fields last is = subst (λ t. TellsParts t fields last) (sym is.written) (made_parts fields last is.all_fields is.passes)
-

@@ -1,15 +1,13 @@
 -- The kinds of the parameters and of the result of a method, as they are read.
-use Rattle.std.proofs.Common.{◌≡◌, ◌≢◌, ℕ, suc, ◌+◌, ◌-◌, ◌<◌, ◌≤◌, Bool, true, false, ◌&&◌, ◌||◌, cond, List, [], ◌∷◌, ◌++◌, length, take, drop, get_or, codes, Some, None, refl, sym, ap, ◌∙◌, subst, arith, length-append, length-drop, drop-cons, add-one}
-use Rattle.std.specs.Prelude.{◌==◌, slice_index, IsTrue, IfSome, Option}
+use Rattle.std.proofs.Common.{◌≡◌, ◌≢◌, ℕ, suc, ◌+◌, ◌<◌, ◌≤◌, true, List, [], ◌∷◌, ◌++◌, length, take, drop, get_or, codes, Some, None, refl, sym, ap, ◌∙◌, arith, drop-cons, add-one}
+use Rattle.std.specs.Prelude.{◌==◌, Option}
 use Rattle.std.specs.List.{flat_map, list_all, AllZip}
-use Rattle.std.specs.Str.{bytes_eq}
 use Rattle.std.proofs.Math.Seq.{take-add}
-use Rattle.std.proofs.lemmas.Bool.{and_parts, and_from, or_cases, ne_eqb, eqb-true, both_ways}
+use Rattle.std.proofs.lemmas.Bool.{and_parts, and_from, eqb-true, both_ways}
 use Rattle.std.proofs.lemmas.Grind.{flat_map-append}
 use Rattle.std.proofs.lemmas.List.{append-nil, append_assoc, take-append-drop, length-take-le}
 use Rattle.fp_model.specs.declared.kind.Kind.{Kind}
-use Rattle.fp_model.specs.declared.kind.Descr.{Descr}
-use Rattle.fp_model.specs.Descriptor.{closes_behind, descr_text, field_len, fields_behind, first_field, is_field_descriptor, is_kind, is_method_descriptor, is_result, kind_names, kind_text, parameters, result_of, result_text, IsDescrOf, IsKindOf, IsParametersEnd, IsResultOf}
+use Rattle.fp_model.specs.Descriptor.{closes_behind, field_len, fields_behind, first_field, is_field_descriptor, is_kind, is_method_descriptor, is_result, kind_names, kind_text, parameters, result_of, result_text, IsDescrOf, IsKindOf, IsParametersEnd, IsResultOf}
 use Rattle.fp_model.proofs.LongerTables.{Keeps, IsKindOf-kept}
 use Rattle.fp_model.proofs.MethodTypes.{field_fits, result_same, result_void_more}
 use Rattle.fp_model.proofs.MethodParts.{closes-there, parameters-open, parameters-next, parameters-end, Next}

@@ -1,16 +1,16 @@
 -- Where a method descriptor stops: its '(', the field descriptors behind it, its ')', and its result.
 use Rattle.std.proofs.Common.{◌≡◌, ◌≢◌, inl, inr, ℕ, zero, suc, ◌+◌, ◌-◌, ◌<◌, ◌≤◌, Bool, true, false, ◌&&◌, ◌||◌, cond, List, [], ◌∷◌, ◌++◌, length, take, drop, get_or, replicate, codes, refl, sym, ap, ◌∙◌, subst, arith, length-append, length-drop, add-one, drop-cons}
-use Rattle.std.specs.Prelude.{◌==◌, nat_lt, nat_le, take_while, slice_index, Option, Some, None, IfSome}
+use Rattle.std.specs.Prelude.{◌==◌, nat_lt, nat_le, take_while, Option, Some, None, IfSome}
 use Rattle.std.specs.List.{list_all}
 use Rattle.std.specs.Str.{bytes_eq}
 use Rattle.std.proofs.lemmas.List.{append_assoc, drop_all, get_or-drop, take-append-drop, take-append-le, take-take, take_all, length-take, length-take-le, length-replicate}
 use Rattle.std.proofs.lemmas.List.Sums.{take_while-cons}
 use Rattle.std.proofs.Math.Seq.{take-append-add, take-append_seam, drop-append_seam, take-add}
-use Rattle.std.proofs.lemmas.Bool.{and_parts, and_left, and_right, and_from, or_left, eqb-true, ne_eqb, both_ways, cases_eq, cases_lt}
+use Rattle.std.proofs.lemmas.Bool.{and_parts, and_left, and_right, or_left, eqb-true, ne_eqb, both_ways, cases_eq, cases_lt}
 use Rattle.fp_model.specs.Descriptor.{closes_behind, dimensions, element_len, field_len, fields_behind, first_field, is_among, is_element, is_ended_name, is_field_descriptor, is_method_descriptor, is_name_byte, is_result, GoesOn, StopsAt}
-use Rattle.fp_model.proofs.Stops.{StopsAt-byte, StopsAt-end, StopsAt-fails}
+use Rattle.fp_model.proofs.Stops.{StopsAt-byte, StopsAt-end}
 use Rattle.fp_model.proofs.EndedNames.{front_and_last, is_ended_name-push, all_front, split, at_byte, behind}
-use Rattle.fp_model.proofs.ArrayTypes.{brackets_and_rest, cut_behind, dimensions-other, dimensions-replicate, dimensions-rest, first_tells, from_place, is_field_descriptor-brackets, not_class}
+use Rattle.fp_model.proofs.ArrayTypes.{brackets_and_rest, cut_behind, dimensions-other, dimensions-replicate, dimensions-rest, first_tells, is_field_descriptor-brackets, not_class}
 
 -- ---- what stands behind so many bytes
 

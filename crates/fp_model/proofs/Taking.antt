@@ -1,6 +1,6 @@
 -- Calls that take texts into a table of names, one after the other.
-use Rattle.std.proofs.Common.{◌≡◌, ℕ, cond, ◌||◌, Bool, true, false, not, List, [], ◌∷◌, ◌++◌, Result, Ok, Err, IfOk, OnOk, OnErr, Some, refl, sym, ap, ◌∙◌, subst}
-use Rattle.std.specs.Result.{IsErrOf, is_ok, is_err}
+use Rattle.std.proofs.Common.{◌≡◌, ℕ, cond, false, not, List, [], ◌∷◌, ◌++◌, Result, Ok, Err, Some, sym, ap, ◌∙◌, subst}
+use Rattle.std.specs.Result.{is_ok, is_err}
 use Rattle.std.specs.List.{list_any, flat_map, slice_get}
 use Rattle.std.proofs.lemmas.Bool.{or_left, or_right}
 use Rattle.std.proofs.lemmas.Grind.{flat_map-append}

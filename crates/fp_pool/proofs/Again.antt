@@ -1,20 +1,19 @@
 -- A constant pool is read back from its spelling.
-use Rattle.std.proofs.Common.{◌≡◌, ℕ, zero, suc, ◌+◌, ◌-◌, ◌<◌, ◌≤◌, ◌^◌, Bool, true, false, ◌&&◌, cond, List, [], ◌∷◌, ◌++◌, Result, Ok, Err, IsTrue, length, take, drop, ltb, leb, ◌==◌, refl, sym, ap, ◌∙◌, subst, arith}
+use Rattle.std.proofs.Common.{◌≡◌, ℕ, suc, ◌+◌, ◌-◌, ◌<◌, ◌≤◌, ◌^◌, Bool, true, false, ◌&&◌, List, [], ◌∷◌, ◌++◌, Ok, IsTrue, length, drop, ltb, ◌==◌, refl, sym, ap, ◌∙◌, subst, arith}
 use Rattle.std.specs.Prelude.{not}
 use Rattle.std.proofs.lemmas.Bool.{and_parts, cond-true, le-leb, ltb-true, ne_eqb}
 use Rattle.std.proofs.lemmas.List.{append-nil, append_assoc}
 use Rattle.std.proofs.lemmas.Nat.{from_be_bytes-to_be_bytes_8}
 use Rattle.std.specs.List.{flat_map}
-use Rattle.std.specs.Int.{Width, w8, w16, w32, w64, byte_len, from_be_bytes}
-use Rattle.fp_model.specs.declared.fault.FileFault.{FileFault}
+use Rattle.std.specs.Int.{Width, w8, w16, w32, w64, from_be_bytes}
 use Rattle.fp_model.specs.declared.fault.FileFault.TheVariants as fault
 use Rattle.fp_model.specs.declared.raw.pool.Entry.{Entry}
 use Rattle.fp_model.specs.declared.raw.pool.Entry.TheVariants as entry
 use Rattle.fp_model.specs.declared.raw.pool.Pool.{Pool}
 use Rattle.fp_model.specs.Pool.{handle_at, index_entry_at, is_wide, is_wide_tag, one_at, pair_entry_at, pool_at, slot_at, slots_at, tagged_at, text_entry_at, two_at, two_numbers_at}
-use Rattle.fp_model.specs.Reading.{◌>>=◌, demanded, number_at, bytes_at, Takes}
-use Rattle.fp_model.specs.References.{tag_of}
-use Rattle.fp_model.specs.Spelling.{u1, u2, u4, u8, counted, spelled_entry, spelled_pool}
+use Rattle.fp_model.specs.Reading.{demanded, number_at, bytes_at, Takes}
+use Rattle.fp_model.specs.References.{checked_pool_at, entries_checked, tag_of}
+use Rattle.fp_model.specs.Spelling.{u1, u2, u4, u8, spelled_entry, spelled_pool}
 use Rattle.fp_model.specs.Thin.{is_u2}
 use Rattle.fp_model.proofs.Takes.{Takes-first, Takes-rest, Takes-room, Takes-split, Takes-text}
 use Rattle.fp_model.proofs.Readers.{stepped, demanded-Ok, reads_u2, u1_again, u4_again, bytes_again}
@@ -176,3 +175,9 @@ pool_again bytes at pool next formed p =
     (stepped (demanded (not (length pool.entries == 0)) (fault.Bounds at)) _ tt (demanded-Ok (not (length pool.entries == 0)) (fault.Bounds at) (some_slots pool.entries parts.1))
     (stepped (slots_at (length pool.entries - 1) (length pool.entries) [] true bytes b) _ (pool.entries, next)
     (slots_again bytes (length pool.entries - 1) pool.entries b next [] true parts.1 rest) refl))) p
+
+pub checked_again : (bytes : List ℕ) (at : ℕ) (pool : Pool) (next : ℕ) → IsTrue (has_form pool) → entries_checked pool.entries (at + 2) pool.entries ≡ Ok tt → Takes bytes at (spelled_pool pool) next → checked_pool_at bytes at ≡ Ok (pool, next)
+unfolding checked_pool_at
+checked_again bytes at pool next formed referred p =
+    stepped (pool_at bytes at) _ (pool, next) (pool_again bytes at pool next formed p)
+    (stepped (entries_checked pool.entries (at + 2) pool.entries) _ tt referred refl)

@@ -1,5 +1,6 @@
 mod Again
 mod Checking
+mod Formed
 mod Marks
 mod Slots
 mod Spelled

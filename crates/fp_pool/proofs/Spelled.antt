@@ -1,18 +1,16 @@
 -- What is read of a constant pool is spelled so.
-use Rattle.std.proofs.Common.{◌≡◌, ℕ, zero, suc, ◌+◌, ◌-◌, ◌<◌, ◌≤◌, Bool, true, false, ◌&&◌, cond, List, [], ◌∷◌, ◌++◌, Result, Ok, Err, IsTrue, IfOk, length, get_or, take, drop, eqb, ltb, ◌==◌, refl, sym, ap, ◌∙◌, subst, arith}
+use Rattle.std.proofs.Common.{◌≡◌, ℕ, zero, suc, ◌-◌, Bool, true, false, ◌&&◌, cond, List, [], ◌∷◌, ◌++◌, Result, Ok, Err, IfOk, ◌==◌, refl, sym, ap, ◌∙◌, subst}
 use Rattle.std.specs.Prelude.{not}
-use Rattle.std.proofs.lemmas.Bool.{and_from, eqb-true, cases_lt}
-use Rattle.std.proofs.lemmas.List.{append-nil, append_assoc, get_or-take, get_or-drop, get_or_past, length-take-le, length-drop}
-use Rattle.std.proofs.lemmas.Nat.{be_bytes_8}
-use Rattle.std.specs.List.{flat_map}
-use Rattle.std.specs.Int.{Width, w8, w16, w32, w64, byte_len, from_be_bytes}
+use Rattle.std.proofs.lemmas.Bool.{eqb-true}
+use Rattle.std.proofs.lemmas.List.{append-nil, append_assoc}
+use Rattle.std.specs.Int.{Width, w8, w16, w32, w64}
 use Rattle.fp_model.specs.declared.fault.FileFault.{FileFault}
 use Rattle.fp_model.specs.declared.fault.FileFault.TheVariants as fault
 use Rattle.fp_model.specs.declared.raw.pool.Entry.{Entry}
 use Rattle.fp_model.specs.declared.raw.pool.Entry.TheVariants as entry
 use Rattle.fp_model.specs.declared.raw.pool.Pool.{Pool}
 use Rattle.fp_model.specs.Pool.{handle_at, index_entry_at, is_wide, is_wide_tag, one_at, pair_entry_at, pool_at, slot_at, slots_at, tagged_at, text_entry_at, two_at, two_numbers_at}
-use Rattle.fp_model.specs.Reading.{◌>>=◌, demanded, number_at, bytes_at, Gives, Takes}
+use Rattle.fp_model.specs.Reading.{demanded, number_at, bytes_at, Gives, Takes}
 use Rattle.fp_model.specs.Spelling.{u1, u2, u4, u8, counted, spelled_entry, spelled_pool}
 use Rattle.fp_model.proofs.Takes.{Takes-nil, Takes-then}
 use Rattle.fp_model.proofs.Readers.{opened, IsBytes, Adds, reads_u2, u1_takes, u4_takes, u8_takes, bytes_takes}
@@ -22,7 +20,7 @@ abbrev TakesNumber : Width → (ℕ → List ℕ) → List ℕ → Type 0
 TakesNumber width spelled bytes = (at : ℕ) (x : ℕ × ℕ) → number_at width bytes at ≡ Ok x → Takes bytes at (spelled x.0) x.1
 
 -- a case of a test
-either : {A P : Type 0} (b : Bool) (x y : A) {r : A} → (b ≡ true → x ≡ r → P) → (b ≡ false → y ≡ r → P) → cond b x y ≡ r → P
+pub either : {A P : Type 0} (b : Bool) (x y : A) {r : A} → (b ≡ true → x ≡ r → P) → (b ≡ false → y ≡ r → P) → cond b x y ≡ r → P
 either true x y f g e = f refl e
 either false x y f g e = g refl e
 

@@ -1,5 +1,5 @@
 -- Which texts of a constant pool are descriptors.
-use Rattle.std.specs.Prelude.{ℕ, List, Option, Some, None, map, option_map}
+use Rattle.std.specs.Prelude.{ℕ, List, Option, Some, map, option_map}
 use Rattle.fp_model.specs.declared.raw.pool.Entry.{Entry}
 use Rattle.fp_model.specs.Descriptor.{is_field_descriptor, is_method_descriptor}
 use Rattle.fp_model.specs.Thin.{text_in}

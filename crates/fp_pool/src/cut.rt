@@ -1,8 +1,9 @@
 //! The constant pool as it is cut into entries, whatever these refer to.
-ghost use Rattle.std.specs.Prelude.{◌≡◌, ◌^◌, ◌-◌, ◌<◌, [], length, true, IfOk};
+ghost use Rattle.std.specs.Prelude.{◌≡◌, ◌^◌, ◌-◌, ◌<◌, [], length, true, IfOk, IsTrue};
 ghost use Rattle.fp_model.specs.Pool as format;
 ghost use Rattle.fp_model.specs.Reading.{Gives, Takes};
 ghost use Rattle.fp_model.specs.Spelling.{spelled_pool};
+ghost use Rattle.fp_pool.specs.Form.{has_form};
 
 use crate::entry::tagged_entry;
 use fp_model::reading::{u8_at, u16_at};
@@ -21,6 +22,7 @@ pub fn cut_pool(alloc: Global, bytes: &[u8], at: u32) -> Result<(Pool, u32), Fil
     ensures exact { Gives result (format.pool_at bytes.now at) }
     // What is read is spelled there.
     ensures spelled { IfOk result (λ x. Takes bytes.now at (spelled_pool x.0) x.1) }
+    ensures formed { IfOk result (λ x. IsTrue (has_form x.0)) }
 {
     pool(alloc, bytes, at)
 }

@@ -1,7 +1,7 @@
-use Rattle.std.proofs.Common.{◌<◌, ◌≤◌, length, sym, ◌∙◌, subst, ap, arith}
+use Rattle.std.proofs.Common.{◌<◌, length, sym, ◌∙◌, subst, arith}
 use Rattle.std.proofs.lemmas.Result.{err_from_is_err_and}
 use Rattle.fp_model.specs.Reading.{Fails}
-use Rattle.fp_model.specs.References.{each_checked, entry_checked}
+use Rattle.fp_model.specs.References.{entry_checked}
 use Rattle.fp_model.specs.Spelling.{spelled_entry}
 use Rattle.fp_pool.proofs.Checking.{each-next, each-end, each-fails, each-size}
 use Rattle.fp_pool.proofs.references.check_entries.Goals as goal

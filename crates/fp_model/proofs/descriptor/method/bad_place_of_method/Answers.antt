@@ -1,4 +1,4 @@
-use Rattle.std.proofs.Common.{◌∙◌, ◌≤◌, ◌+◌, sym, length, arith, length-drop, rules}
+use Rattle.std.proofs.Common.{◌∙◌, ◌+◌, sym, length, arith, length-drop, rules}
 use Rattle.std.proofs.lemmas.Bool.{eqb-true}
 use Rattle.fp_model.proofs.ArrayTypes.{from_place}
 use Rattle.fp_model.proofs.MethodTypes.{method_empty, method_other, method_opens, method_goes, method_stops, method_ends, method_whole, method_result}

@@ -1,5 +1,5 @@
-use Rattle.std.proofs.Common.{◌≡◌, ◌+◌, ◌<◌, ◌≤◌, ◌∙◌, [], ◌∷◌, ap, arith, get_or, drop, length}
-use Rattle.fp_model.specs.Descriptor.{closes_behind, field_len, words_of, words_of_all}
+use Rattle.std.proofs.Common.{◌+◌, ◌≤◌, ◌∙◌, ap, arith, get_or, drop, length}
+use Rattle.fp_model.specs.Descriptor.{closes_behind, words_of_all}
 use Rattle.fp_model.proofs.ArrayTypes.{from_place}
 use Rattle.fp_model.proofs.MethodParts.{closes-there, parameters-open, parameters-next, words-next, words-end, words-few}
 use Rattle.fp_model.proofs.descriptor.method.count_words.Goals as goal

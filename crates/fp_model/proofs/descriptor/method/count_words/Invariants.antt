@@ -1,4 +1,4 @@
-use Rattle.std.proofs.Common.{◌≡◌, ◌+◌, ◌-◌, ◌*◌, ◌<◌, ◌≤◌, true, length, drop}
+use Rattle.std.proofs.Common.{◌≡◌, ◌+◌, ◌-◌, ◌*◌, ◌≤◌, true, length, drop}
 use Rattle.fp_model.specs.Descriptor.{closes_behind, fields_behind, parameters, words_of_all}
 use Rattle.fp_model.proofs.descriptor.method.count_words.Given as goal
 

@@ -1,4 +1,4 @@
-use Rattle.std.proofs.Common.{◌≡◌, ◌+◌, ◌∙◌, [], List, ℕ, Ok, drop, sym, ap, subst}
+use Rattle.std.proofs.Common.{◌+◌, ◌∙◌, ap, subst}
 use Rattle.std.proofs.lemmas.Result.{err_from_is_err_and}
 use Rattle.std.specs.List.{flat_map}
 use Rattle.fp_model.specs.Descriptor.{kind_names, parameters, result_of, IsResultOf}
