@@ -3,6 +3,7 @@ use fp_model::{MethodId, SiteId};
 use sqlite_items::Items;
 
 /// What a report of a solved system reads of it, beside the values.
+#[derive(Clone, Copy)]
 pub struct JavaView<'a> {
     /// The cells of the system.
     pub cells: &'a Cells,

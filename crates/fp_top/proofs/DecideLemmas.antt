@@ -1,6 +1,7 @@
 -- What the steps of a run say together.
-use Rattle.std.proofs.Common.{◌≡◌, ℕ, Bool, true, false, List, [], ◌∷◌, ◌++◌, Option, Some, None, refl, sym, ap, subst, ◌∙◌, inl, inr, append_assoc, lit<}
-use Rattle.std.specs.Prelude.{filter, Contains, IsSome, string_bytes, if◌then◌else◌}
+use Rattle.std.proofs.Common.{◌≡◌, ℕ, ◌≤◌, length, Result, Ok, Err, Bool, true, false, List, [], ◌∷◌, ◌++◌, Option, Some, None, refl, sym, ap, subst, ◌∙◌, inl, inr, append_assoc, lit<}
+use Rattle.std.specs.Prelude.{filter, Contains, IsSome, IsTrue, IfOk, IfErr, nat_lt, unwrap_or, string_bytes, if◌then◌else◌}
+use Rattle.std.proofs.lemmas.Bool.{cond-false, le-ltb}
 use Rattle.std.specs.Str.{bytes_eq}
 use Rattle.std.specs.Cmp.Lexicographic.{bytes_decides}
 use Rattle.std.proofs.lemmas.List.Elements.{Contains-append_right}
@@ -9,7 +10,12 @@ use Rattle.fp_base.specs.Calls.Call.{Listing, Reading}
 use Rattle.fp_base.specs.Files.{File, bytes_at, paths_of, class_paths, is_class_file}
 use Rattle.fp_top.specs.declared.refusal.Refusal.{Refusal}
 use Rattle.fp_top.specs.declared.refusal.Refusal.TheVariants as refusal
-use Rattle.fp_top.specs.Refusal.{Blames, BlamesReading}
+use Rattle.fp_model.specs.ClassSet.{SetView}
+use Rattle.fp_model.specs.Thin.{class_of}
+use Rattle.fp_words.specs.Words.{RunAsked}
+use Rattle.fp_top.specs.Outcome.{outcome, outcome_of_bytes, outcome_of_paths, outcome_of_read, outcome_of_run, outcome_of_sound}
+use Rattle.fp_top.specs.Words.{asked_of}
+use Rattle.fp_top.specs.Refusal.{Blames, BlamesReading, Says}
 
 told_step : (passes same : Bool) (first path bytes : List ℕ) (others rest : List (List ℕ)) (found : Option (List ℕ)) → (first ≡ path → same ≡ true) → (others ≡ path ∷ rest → IsSome found) → (if passes then first ∷ others else others) ≡ path ∷ rest → IsSome (if same then Some bytes else found)
 told_step passes true first path bytes others rest found equal told is = refl
@@ -44,5 +50,36 @@ blames_reading dir file listed before mid now (refusal.Unbuilt path at) alone be
 blames_reading dir file listed before mid now (refusal.Duplicate name) alone below grows is = tt
 blames_reading dir file listed before mid now (refusal.Cycle name) alone below grows is = tt
 blames_reading dir file listed before mid now (refusal.Selection item) alone below grows is = tt
-blames_reading dir file listed before mid now (refusal.Limit name most) alone below grows is = tt
+blames_reading dir file listed before mid now (refusal.Limit bound most) alone below grows is = tt
 blames_reading dir file listed before mid now refusal.Memory alone below grows is = tt
+
+-- what a file that stands alone is refused for
+pub says_of_one : (asked : RunAsked) (files now : List File) (dir path : List ℕ) (paths : List (List ℕ)) (r : Refusal) → paths ≡ path ∷ [] → now ≡ files
+    → Says (outcome_of_bytes asked path (unwrap_or (bytes_at now path) [])) r → Says (outcome_of_paths asked files dir paths) r
+says_of_one asked files now dir path paths r alone same says =
+    rw alone (subst (λ (fs : List File). Says (outcome_of_bytes asked path (unwrap_or (bytes_at fs path) [])) r) same says)
+
+-- the outcome of a file that stands alone, and was read whole
+read_alone : (asked : RunAsked) (files : List File) (dir path bytes : List ℕ) (paths : List (List ℕ)) → paths ≡ path ∷ [] → bytes_at files path ≡ Some bytes → length bytes ≤ 4194304
+    → outcome_of_paths asked files dir paths ≡ outcome_of_read asked path (class_of bytes)
+read_alone asked files dir path bytes paths alone told short =
+    ap (outcome_of_paths asked files dir) alone
+    ∙ ap (λ (o : Option (List ℕ)). outcome_of_bytes asked path (unwrap_or o [])) told
+    ∙ cond-false (nat_lt 4194304 (length bytes)) _ (outcome_of_read asked path (class_of bytes)) (le-ltb 4194304 (length bytes) short)
+
+pub set_read : (tells : Bool) (files : List File) (dir path bytes : List ℕ) (paths : List (List ℕ)) (result : Result SetView Refusal) → (IsTrue tells → paths ≡ path ∷ []) → (IsTrue tells → bytes_at files path ≡ Some bytes) → length bytes ≤ 4194304
+    → IfOk result (λ set. (asked : RunAsked) → outcome_of_read asked path (class_of bytes) ≡ outcome_of_sound set asked)
+    → IfOk result (λ set. IsTrue tells → (asked : RunAsked) → outcome_of_paths asked files dir paths ≡ outcome_of_sound set asked)
+set_read tells files dir path bytes paths (Ok set) alone told short is = λ t asked. read_alone asked files dir path bytes paths (alone t) (told t) short ∙ is asked
+set_read tells files dir path bytes paths (Err r) alone told short is = tt
+
+pub set_refused : (tells : Bool) (files : List File) (dir path bytes : List ℕ) (paths : List (List ℕ)) (result : Result SetView Refusal) → (IsTrue tells → paths ≡ path ∷ []) → (IsTrue tells → bytes_at files path ≡ Some bytes) → length bytes ≤ 4194304
+    → IfErr result (λ r. (asked : RunAsked) → Says (outcome_of_read asked path (class_of bytes)) r)
+    → IfErr result (λ r. IsTrue tells → (asked : RunAsked) → Says (outcome_of_paths asked files dir paths) r)
+set_refused tells files dir path bytes paths (Ok set) alone told short is = tt
+set_refused tells files dir path bytes paths (Err r) alone told short is = λ t asked.
+    subst (λ o. Says o r) (sym (read_alone asked files dir path bytes paths (alone t) (told t) short)) (is asked)
+
+-- what the words' run is refused for
+pub says_of_words : (words : List (List ℕ)) (files : List File) (asked : RunAsked) (r : Refusal) → asked_of words ≡ Some asked → Says (outcome_of_paths asked files asked.dir (class_paths files asked.dir)) r → Says (outcome words files) r
+says_of_words words files asked r is says = subst (λ o. Says (outcome_of_run files o) r) (sym is) says

@@ -49,7 +49,7 @@ says_count asked files dir (p ∷ q ∷ ps) (refusal.Unbuilt path at) other is =
 says_count asked files dir paths (refusal.Duplicate name) other is = absurd is
 says_count asked files dir paths (refusal.Cycle name) other is = absurd is
 says_count asked files dir paths (refusal.Selection item) other is = absurd is
-says_count asked files dir paths (refusal.Limit name most) other is = absurd is
+says_count asked files dir paths (refusal.Limit bound most) other is = absurd is
 says_count asked files dir paths refusal.Memory other is = tt
 
 pub refused_count : (tells : Bool) (files : List File) (dir : List ℕ) (told : List (List ℕ)) (paths : List (String Global)) (r : Result (String Global) Refusal) → (IsTrue tells → IsPermutation told (texts paths)) → IfErr r (λ e. (length paths ≢ 1) × IsUnbuilt dir (length paths) e) → IfErr r (λ e. IsTrue tells → (asked : RunAsked) → Says (outcome_of_paths asked files dir told) e)
@@ -84,7 +84,7 @@ says_long asked path bytes (refusal.Unbuilt named at) long is = rw (long, is.0, 
 says_long asked path bytes (refusal.Duplicate name) long is = absurd is
 says_long asked path bytes (refusal.Cycle name) long is = absurd is
 says_long asked path bytes (refusal.Selection item) long is = absurd is
-says_long asked path bytes (refusal.Limit name most) long is = absurd is
+says_long asked path bytes (refusal.Limit bound most) long is = absurd is
 says_long asked path bytes refusal.Memory long is = tt
 
 pub refused_long : (asked : RunAsked) (path : List ℕ) (file : Option (List ℕ)) (bytes : List ℕ) (r : Refusal) → option_map first_bytes file ≡ Some bytes → 4194304 < length bytes → IsUnbuilt path 4194304 r → Says (outcome_of_bytes asked path (unwrap_or file [])) r

@@ -121,7 +121,7 @@ says-of-set asked set (refusal.Unbuilt path at) is = absurd is
 says-of-set asked set (refusal.Duplicate name) is = ap (outcome_of_set set asked) is
 says-of-set asked set (refusal.Cycle name) is = ap (outcome_of_set set asked) is
 says-of-set asked set (refusal.Selection item) is = absurd is
-says-of-set asked set (refusal.Limit name most) is = absurd is
+says-of-set asked set (refusal.Limit bound most) is = absurd is
 says-of-set asked set refusal.Memory is = tt
 
 pub judged : (names : List (List ℕ)) (c : Class) (raw : Raw) (result : Result SetView Refusal) → names ≡ with_names [] (raw_names raw) → AreDistinct names → IsClassOf names c raw

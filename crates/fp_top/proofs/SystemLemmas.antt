@@ -1,6 +1,5 @@
 -- The system of a set, what its report may be made of, and what its solution says.
 use Rattle.std.proofs.Common.{◌≡◌, ◌≢◌, ℕ, zero, suc, ◌+◌, ◌<◌, ◌≤◌, ◌==◌, Bool, true, false, cond, List, [], ◌∷◌, ◌++◌, length, map, All, Option, Some, None, inl, inr, ⊎_elim, slice_index, refl, sym, ap, ap₂, subst, ◌∙◌, length-append, arith, add-one}
-use Rattle.std.specs.Prelude.{filter, zip, replicate}
 use Rattle.std.specs.List.{flat_map, range_with_len}
 use Rattle.std.proofs.lemmas.Bool.{cases_Bool, cond_both, cond-true, cond-false, eq-eqb}
 use Rattle.std.proofs.lemmas.List.Elements.{All-nil, All-cons, All-append, All-weaker}
@@ -26,17 +25,17 @@ use Rattle.fp_top.specs.Outcome.Outcome.{Report}
 -- ---- cells
 
 class_cells-from : (P : Cell → Type 0) (k : KindId) (bits : ℕ) (test : Class → Bool) (n first : ℕ) (classes : List Class) → first + length classes ≤ n → ((id : ℕ) → id < n → P (record { kind = k; entity = entity.Class id; bits = bits }))
-    → All P (map (λ (e : ℕ × Class). record { kind = k; entity = entity.Class e.0; bits = bits }) (filter (λ (e : ℕ × Class). test e.1) (zip (range_with_len first (length classes)) classes)))
+    → All P (class_cells k bits test first classes)
 class_cells-from P k bits test n first [] fits holds = All-nil P
 class_cells-from P k bits test n first (c ∷ cs) fits holds =
-    let mk : (ℕ × Class) → Cell = λ e. record { kind = k; entity = entity.Class e.0; bits = bits } in
-    let rest = filter (λ (e : ℕ × Class). test e.1) (zip (range_with_len (first + 1) (length cs)) cs) in
-    let others : All P (map mk rest) = class_cells-from P k bits test n (first + 1) cs (omega (arith, fits)) holds in
-    cond_both (test c) ((first, c) ∷ rest) rest (λ l. All P (map mk l))
-    (λ _. All-cons P (mk (first, c)) (map mk rest) (holds first (omega (arith, fits))) others)
+    let cell : Cell = record { kind = k; entity = entity.Class first; bits = bits } in
+    let rest = class_cells k bits test (first + 1) cs in
+    let others : All P rest = class_cells-from P k bits test n (first + 1) cs (omega (arith, fits)) holds in
+    cond_both (test c) (cell ∷ []) [] (λ l. All P (l ++ rest))
+    (λ _. All-cons P cell rest (holds first (omega (arith, fits))) others)
     (λ _. others)
 
-class_cells-all : (P : Cell → Type 0) (k : KindId) (bits : ℕ) (test : Class → Bool) (classes : List Class) → ((id : ℕ) → id < length classes → P (record { kind = k; entity = entity.Class id; bits = bits })) → All P (class_cells k bits test classes)
+class_cells-all : (P : Cell → Type 0) (k : KindId) (bits : ℕ) (test : Class → Bool) (classes : List Class) → ((id : ℕ) → id < length classes → P (record { kind = k; entity = entity.Class id; bits = bits })) → All P (class_cells k bits test 0 classes)
 class_cells-all P k bits test classes holds = class_cells-from P k bits test (length classes) 0 classes (omega arith) holds
 
 field_cells-from : (P : Cell → Type 0) (k : KindId) (bits n first count : ℕ) → first + count ≤ n → ((id : ℕ) → id < n → P (record { kind = k; entity = entity.Field id; bits = bits }))

@@ -1,6 +1,6 @@
 -- What a refusal says of the status and of the text of a run.
 use Rattle.std.proofs.Common.{◌≡◌, ◌≢◌, ◌⊎◌, ℕ, Bool, List, [], ◌∷◌, ◌++◌, length, Option, Some, None, IsTrue, refl, sym, ap, ◌∙◌, inl, inr, length-append, arith}
-use Rattle.std.specs.Prelude.{string_bytes}
+use Rattle.std.specs.Prelude.{IsNone, string_bytes}
 use Rattle.fp_base.specs.Files.{File}
 use Rattle.fp_base.specs.Calls.{Call, Gained}
 use Rattle.fp_top.specs.declared.status.Status.{Status}
@@ -9,8 +9,10 @@ use Rattle.fp_top.specs.declared.refusal.Refusal.{Refusal}
 use Rattle.fp_top.specs.declared.refusal.Refusal.TheVariants as refusal
 use Rattle.fp_top.specs.Outcome.{Outcome}
 use Rattle.fp_top.specs.Outcome as outcome
-use Rattle.fp_top.specs.Refusal.{Says, BlamesIn, status_of, text_of}
-use Rattle.fp_top.specs.Top.{IsText}
+use Rattle.fp_base.specs.Faults.{AppendsPart}
+use Rattle.fp_top.specs.Refusal.{Says, BlamesIn, IsWorded, status_of, text_of}
+use Rattle.fp_top.specs.Top.{IsReadFault, IsText}
+use Rattle.fp_top.specs.Words.{directory_of}
 
 -- no call is gained where none is added
 gained_none : (before now : List Call) (call : Call) → now ≡ before → Gained before now call → ⊥
@@ -27,7 +29,7 @@ no_read_fault dir listed before now (refusal.Unbuilt path at) blames same is = c
 no_read_fault dir listed before now (refusal.Duplicate name) blames same is = cc
 no_read_fault dir listed before now (refusal.Cycle name) blames same is = cc
 no_read_fault dir listed before now (refusal.Selection item) blames same is = cc
-no_read_fault dir listed before now (refusal.Limit name most) blames same is = cc
+no_read_fault dir listed before now (refusal.Limit bound most) blames same is = cc
 no_read_fault dir listed before now refusal.Memory blames same is = cc
 
 -- where the told files call for a report, and no call failed, memory ran out
@@ -38,7 +40,7 @@ only_memory o dir listed before now (refusal.Unbuilt path at) says blames done s
 only_memory o dir listed before now (refusal.Duplicate name) says blames done same = let wrong : status.Refused ≡ status.Done = sym (ap outcome.status_of says) ∙ done in absurd cc
 only_memory o dir listed before now (refusal.Cycle name) says blames done same = let wrong : status.Refused ≡ status.Done = sym (ap outcome.status_of says) ∙ done in absurd cc
 only_memory o dir listed before now (refusal.Selection item) says blames done same = let wrong : status.Selection ≡ status.Done = sym (ap outcome.status_of says) ∙ done in absurd cc
-only_memory o dir listed before now (refusal.Limit name most) says blames done same = let wrong : status.Limit ≡ status.Done = sym (ap outcome.status_of says) ∙ done in absurd cc
+only_memory o dir listed before now (refusal.Limit bound most) says blames done same = let wrong : status.Limit ≡ status.Done = sym (ap outcome.status_of says) ∙ done in absurd cc
 only_memory o dir listed before now refusal.Memory says blames done same = inr refl
 
 -- the text of a refusal goes with its status
@@ -49,5 +51,30 @@ IsText-refusal tells words files (refusal.Unbuilt path at) says = λ t. sym (ap 
 IsText-refusal tells words files (refusal.Duplicate name) says = λ t. sym (ap outcome.text_of (says t))
 IsText-refusal tells words files (refusal.Cycle name) says = λ t. sym (ap outcome.text_of (says t))
 IsText-refusal tells words files (refusal.Selection item) says = λ t. sym (ap outcome.text_of (says t))
-IsText-refusal tells words files (refusal.Limit name most) says = λ t. sym (ap outcome.text_of (says t))
+IsText-refusal tells words files (refusal.Limit bound most) says = λ t. sym (ap outcome.text_of (says t))
 IsText-refusal tells words files refusal.Memory says = refl
+
+-- words that name no directory are refused as Usage
+pub usage_of : (dir : Option (List ℕ)) (r : Refusal) → IsWorded dir r → IsNone dir → status_of r ≡ status.Usage
+usage_of None refusal.Usage worded none = refl
+usage_of None (refusal.Read path) worded none = absurd worded
+usage_of None (refusal.Unbuilt path at) worded none = absurd worded
+usage_of None (refusal.Duplicate name) worded none = absurd worded
+usage_of None (refusal.Cycle name) worded none = absurd worded
+usage_of None (refusal.Selection item) worded none = absurd worded
+usage_of None (refusal.Limit bound most) worded none = absurd worded
+usage_of None refusal.Memory worded none = absurd worded
+usage_of (Some dir) r worded none = absurd cc
+
+-- a read fault names the path that is to blame
+pub fault_of : (words : List (List ℕ)) (dir : Option (List ℕ)) (listed : List (List ℕ)) (before now : List Call) (err err' : Option (List ℕ)) (r : Refusal) → directory_of words ≡ dir → BlamesIn dir listed before now r → status_of r ≡ status.ReadFault
+    → AppendsPart err err' (text_of r) → IsReadFault words listed before now err err'
+fault_of words dir listed before now err err' refusal.Usage names blames is part = absurd cc
+fault_of words None listed before now err err' (refusal.Read path) names blames is part = absurd blames
+fault_of words (Some dir) listed before now err err' (refusal.Read path) names blames is part = record { dir = dir; path = string_bytes path; worded = names; blamed = blames; named = part }
+fault_of words dir listed before now err err' (refusal.Unbuilt path at) names blames is part = absurd cc
+fault_of words dir listed before now err err' (refusal.Duplicate name) names blames is part = absurd cc
+fault_of words dir listed before now err err' (refusal.Cycle name) names blames is part = absurd cc
+fault_of words dir listed before now err err' (refusal.Selection item) names blames is part = absurd cc
+fault_of words dir listed before now err err' (refusal.Limit bound most) names blames is part = absurd cc
+fault_of words dir listed before now err err' refusal.Memory names blames is part = absurd cc

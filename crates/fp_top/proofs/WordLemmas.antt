@@ -1,9 +1,12 @@
 -- What words that ask for a run ask for.
-use Rattle.std.proofs.Common.{◌≡◌, ℕ, Bool, true, false, List, [], ◌∷◌, cond, Option, Some, None, refl, sym, ap, subst, ◌∙◌}
+use Rattle.std.proofs.Common.{◌≡◌, ℕ, ◌≤◌, nat_lt, Bool, true, false, List, [], ◌∷◌, length, cond, Option, Some, None, refl, sym, ap, subst, ◌∙◌}
 use Rattle.std.specs.Prelude.{option_map, option_and_then}
 use Rattle.std.specs.List.{list_all}
 use Rattle.std.proofs.lemmas.Option.{none-some, same_Some}
-use Rattle.fp_words.specs.Words.{Asked, Given, RunAsked, asked, is_plain, list_items, none_given, one_worker, options_of, run_of, run_with, run_asked}
+use Rattle.std.proofs.lemmas.Bool.{cond-false, le-ltb}
+use Rattle.fp_words.specs.Words.{Asked, Given, RunAsked, asked, is_plain, none_given, one_worker, options_of, run_of, run_with, run_asked}
+use Rattle.fp_words.specs.Lists.{list_items}
+use Rattle.fp_top.specs.Words.{asked_of}
 use Rattle.fp_words.specs.Words.Asked.{Run, Generate}
 
 and_then_holds : {X Y : Type 0} (P : Y → Type 0) (f : X → Option Y) (o : Option X) → ((x : X) (y : Y) → f x ≡ Some y → P y) → (y : Y) → option_and_then f o ≡ Some y → P y
@@ -46,3 +49,7 @@ never-generate (Some q) seed classes workers is = let same : Run q ≡ Generate 
 pub order-none : (o : Option RunAsked) → option_map Run o ≡ None → o ≡ None
 order-none None is = refl
 order-none (Some q) is = absurd (none-some (Run q) (sym is))
+
+-- words that are no more than a run without roots has ask for what their run is
+pub not-more : (words : List (List ℕ)) (r : RunAsked) → length words ≤ 7 → run_asked words ≡ Some r → asked_of words ≡ Some r
+not-more words r few is = cond-false {A = Option RunAsked} (nat_lt 7 (length words)) None (run_asked words) (le-ltb 7 (length words) few) ∙ is

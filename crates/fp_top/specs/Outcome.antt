@@ -15,7 +15,8 @@ use Rattle.fp_model.specs.ClassSet.{SetView, SetRefusal, refusal_of}
 use Rattle.fp_model.specs.ClassSet.SetRefusal.{Duplicate, SuperCycle}
 use Rattle.fp_eqs.specs.Solution.{solution}
 use Rattle.fp_eqs.specs.Demand.{demand}
-use Rattle.fp_system.specs.Java.{SystemRefusal, java_cells, java_equations, most_places, shown_from, system_refusal}
+use Rattle.fp_system.specs.Java.{SystemRefusal, java_cells, java_equations, shown_from, system_refusal}
+use Rattle.fp_system.specs.Limits.{most_places}
 use Rattle.fp_system.specs.Java.SystemRefusal.{UnknownAnalysis, UnknownItem, TooManyPlaces}
 use Rattle.fp_report.specs.Report.{report}
 use Rattle.fp_words.specs.Words.{RunAsked}

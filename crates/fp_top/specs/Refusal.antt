@@ -20,7 +20,7 @@ status_of (refusal.Unbuilt path at) = status.Refused
 status_of (refusal.Duplicate name) = status.Refused
 status_of (refusal.Cycle name) = status.Refused
 status_of (refusal.Selection item) = status.Selection
-status_of (refusal.Limit name most) = status.Limit
+status_of (refusal.Limit bound most) = status.Limit
 status_of refusal.Memory = status.Memory
 
 -- what it writes to err; the names of duplicates and of cycles are escaped already
@@ -31,7 +31,7 @@ text_of (refusal.Unbuilt path at) = unbuilt_text (string_bytes path) at
 text_of (refusal.Duplicate escaped) = duplicate_text (string_bytes escaped)
 text_of (refusal.Cycle escaped) = cycle_text (string_bytes escaped)
 text_of (refusal.Selection item) = selection_text (string_bytes item)
-text_of (refusal.Limit name most) = limit_text name most
+text_of (refusal.Limit bound most) = limit_text bound most
 text_of refusal.Memory = memory_text
 
 -- a read fault and want of memory say nothing of the outcome

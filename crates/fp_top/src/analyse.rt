@@ -50,7 +50,7 @@ pub fn analyse_one<D: ClassDir, S: Sink>(
     ensures grows { Grows (D.failed dir.old) (D.failed dir.new) }
 {
     match decide(alloc, words, dir) {
-        Ok(run) => match put_report(alloc, &run, out) {
+        Ok(run) => match put_report(alloc, run, out) {
             Ok(()) => Status::Done,
             Err(PrintFault::Write) => {
                 let _ = err.put(b"write fault\n");

@@ -11,11 +11,11 @@ use fp_cells::JavaView;
 use fp_report::{PrintFault, print};
 use std::alloc::Global;
 
-/// Puts the report of a run.
-pub fn put_report<S: Sink>(alloc: Global, run: &Run, out: &mut S) -> Result<(), PrintFault>
-    requires { IsReady run.now }
-    ensures whole { OnOk result (S.told out.new ≡ append_known (S.told out.old) (flat_map (λ line. line) (lines_of run.now))) }
-    ensures part { OnErr result (AppendsPart (S.told out.old) (S.told out.new) (flat_map (λ line. line) (lines_of run.now))) }
+/// Puts the report of a run, and ends it.
+pub fn put_report<S: Sink>(alloc: Global, run: Run, out: &mut S) -> Result<(), PrintFault>
+    requires { IsReady run }
+    ensures whole { OnOk result (S.told out.new ≡ append_known (S.told out.old) (flat_map (λ line. line) (lines_of run))) }
+    ensures part { OnErr result (AppendsPart (S.told out.old) (S.told out.new) (flat_map (λ line. line) (lines_of run))) }
     ensures cause { HasPrintCause (S.faults out.old) (S.faults out.new) result }
 {
     let view = JavaView {

@@ -286,7 +286,7 @@ fn the_lines_of_classes_stand_in_the_order_of_their_bytes(rt: HostRuntime) -> Re
     let job = job_of(alloc, &words).ok().ok_or("no job")?;
     let run = solve(alloc, three_classes(alloc)?, job).ok().ok_or("no run")?;
     let mut out = MemSink::new(alloc, Vec::new(alloc));
-    assert_eq!(rt; put_report(alloc, &run, &mut out), Ok(()));
+    assert_eq!(rt; put_report(alloc, run, &mut out), Ok(()));
     let wanted = "declared B open\ndeclared a\\x2eA open\ndeclared b/C open\nimmut B mutable\ninst b/C present\ncells 5\n";
     assert_eq!(rt; out.bytes(), wanted.as_bytes());
     Ok(())
