@@ -105,8 +105,11 @@ put-ascends text [] up = (All-nil (λ y. is_before y text ≡ false), tt)
 put-ascends text (other ∷ others) up =
     cond_both (is_before other text) (other ∷ put_in_order text others) (text ∷ (other ∷ others)) Ascends
     (λ earlier. (All-put (λ y. is_before y other ≡ false) text others (before_one_way other text earlier) up.0, put-ascends text others up.1))
-    (λ later. (All-cons (λ y. is_before y text ≡ false) other others later
-      (All-weaker (λ y. is_before y other ≡ false) (λ y. is_before y text ≡ false) (λ y h. not_before text other y later h) others up.0), up))
+    (λ later. (
+      All-cons (λ y. is_before y text ≡ false) other others later
+          (All-weaker (λ y. is_before y other ≡ false) (λ y. is_before y text ≡ false) (λ y h. not_before text other y later h) others up.0),
+      up,
+    ))
 
 order-ascends : (texts : List (List ℕ)) → Ascends (in_text_order texts)
 unfolding in_text_order
@@ -125,8 +128,8 @@ one_order (x ∷ xs) (y ∷ ys) up vp same =
     let all_x : All (λ z. is_before z x ≡ false) (x ∷ xs) = All-cons (λ z. is_before z x ≡ false) x xs (not_before_itself x) up.0 in
     let all_y : All (λ z. is_before z y ≡ false) (y ∷ ys) = All-cons (λ z. is_before z y ≡ false) y ys (not_before_itself y) vp.0 in
     let head : x ≡ y = same_text x y
-      (All-times (λ z. is_before z y ≡ false) x (y ∷ ys) all_y (subst (λ n. 0 < n) (same x) (itself x xs)))
-      (All-times (λ z. is_before z x ≡ false) y (x ∷ xs) all_x (subst (λ n. 0 < n) (sym (same y)) (itself y ys))) in
+    (All-times (λ z. is_before z y ≡ false) x (y ∷ ys) all_y (subst (λ n. 0 < n) (same x) (itself x xs)))
+    (All-times (λ z. is_before z x ≡ false) y (x ∷ xs) all_x (subst (λ n. 0 < n) (sym (same y)) (itself y ys))) in
     let tails : xs ≡ ys = one_order xs ys up.1 vp.1 (λ k. cancelled (cond (bytes_eq x k) 1 0) (times k xs) (times k ys) (same k ∙ ap (λ z. cond (bytes_eq z k) 1 0 + times k ys) (sym head))) in
     ap (λ z. z ∷ xs) head ∙ ap (λ l. y ∷ l) tails
   where
@@ -140,9 +143,10 @@ all_mapped f P (x ∷ xs) all = All-cons P (f x) (map f xs) (All-head (λ y. P (
 -- what a sort ensures, from each place on
 ascends-sorted : {X : Type 0} (f : X → List ℕ) (xs : List X) → ((i j : ℕ) (d : X) → i ≤ j → j < length xs → is_before (f (get_or xs j d)) (f (get_or xs i d)) ≡ false) → Ascends (map f xs)
 ascends-sorted f [] up = tt
-ascends-sorted f (x ∷ xs) up =
-    (all_mapped f (λ y. is_before y (f x) ≡ false) xs (λ j d inside. up zero (suc j) d (omega arith) (omega (arith, inside))),
-     ascends-sorted f xs (λ i j d below inside. up (suc i) (suc j) d (omega (arith, below)) (omega (arith, inside))))
+ascends-sorted f (x ∷ xs) up = (
+  all_mapped f (λ y. is_before y (f x) ≡ false) xs (λ j d inside. up zero (suc j) d (omega arith) (omega (arith, inside))),
+  ascends-sorted f xs (λ i j d below inside. up (suc i) (suc j) d (omega (arith, below)) (omega (arith, inside))),
+)
 
 -- what is sorted by its texts has them in their order
 pub sorted_is_order : {X : Type 0} (f : X → List ℕ) (xs ys : List X) → IsPermutation xs ys → IsSorted (λ a b. slice_cmp nat_cmp (f a) (f b)) ys → map f ys ≡ in_text_order (map f xs)

@@ -1,5 +1,5 @@
 -- Counts above 0 and above 1, and the places that they count.
-use Rattle.std.proofs.Common.{◌≡◌, ℕ, zero, suc, ◌+◌, ◌-◌, ◌<◌, ◌≤◌, Bool, true, false, cond, ◌⊎◌, inl, inr, ⊎_elim, List, [], ◌∷◌, length, get_or, take, drop, count_by, sum_by, refl, sym, ap, ◌∙◌, arith, length-take-le, get_or-take, get_or-drop, length-drop, add-zero, le_of_lt}
+use Rattle.std.proofs.Common.{◌≡◌, ℕ, suc, ◌+◌, ◌<◌, ◌≤◌, Bool, true, cond, ⊎_elim, List, [], ◌∷◌, length, get_or, take, drop, count_by, ap, ◌∙◌, arith, length-take-le, get_or-take, get_or-drop, length-drop, add-zero, le_of_lt}
 use Rattle.std.proofs.lemmas.Bool.{cases_Bool, cond-true, cond-false}
 use Rattle.std.proofs.lemmas.List.Sums.{sum_by-cons, get_or-le-sum_by, sum_by-take-drop}
 

@@ -137,4 +137,3 @@ kept_by result old new texts taken = record {
 
 pub Keeps-then : (a b d : List (List ℕ)) → Keeps a b → Keeps b d → Keeps a d
 Keeps-then a b d first second = record { stands = λ i text at. second.stands i text (first.stands i text at) }
-

@@ -1,12 +1,12 @@
 -- What is said over a table of names holds over a longer one.
-use Rattle.std.proofs.Common.{◌≡◌, ℕ, ◌<◌, Bool, true, false, ◌&&◌, List, [], ◌∷◌, ◌++◌, Some, None, length, replicate, drop, refl, sym, ap, ◌∙◌, arith}
-use Rattle.std.specs.Prelude.{nat_le, slice_get, unwrap_or, IsTrue}
+use Rattle.std.proofs.Common.{◌≡◌, ℕ, ◌<◌, true, ◌&&◌, List, [], ◌∷◌, ◌++◌, Some, None, length, replicate, refl, sym, ap, ◌∙◌, arith}
+use Rattle.std.specs.Prelude.{nat_le, slice_get, unwrap_or}
 use Rattle.std.proofs.lemmas.Bool.{and_parts}
 use Rattle.fp_model.specs.declared.kind.Kind.{Kind}
 use Rattle.fp_model.specs.declared.kind.Kind.TheVariants as kind
 use Rattle.fp_model.specs.declared.kind.Elem.{Elem}
 use Rattle.fp_model.specs.declared.kind.Elem.TheVariants as elem
-use Rattle.fp_model.specs.Descriptor.{element_text, is_element, is_field_descriptor, is_kind, is_proper, kind_text, text_of, IsKindOf}
+use Rattle.fp_model.specs.Descriptor.{element_text, is_element, is_field_descriptor, is_proper, kind_text, text_of, IsKindOf}
 use Rattle.fp_model.proofs.ArrayTypes.{is_field_descriptor-brackets}
 use Rattle.fp_model.proofs.ElementTexts.{name_parts}
 

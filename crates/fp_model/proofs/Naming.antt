@@ -1,12 +1,9 @@
 -- The first name of the classes that are marked, from the last class to the first.
-use Rattle.std.proofs.Common.{◌≡◌, ℕ, ◌+◌, ◌<◌, ◌≤◌, Bool, true, false, cond, List, [], ◌∷◌, length, map, filter, zip, get_or, drop, Option, Some, None, unwrap_or, option_copied, slice_get, IsAscii, IsUtf8, All, IsSome, ⊎_elim, refl, sym, ap, ap₂, ◌∙◌, arith}
+use Rattle.std.proofs.Common.{◌≡◌, ℕ, ◌+◌, ◌<◌, ◌≤◌, Bool, true, false, cond, List, [], ◌∷◌, length, map, filter, zip, get_or, drop, Option, Some, None, unwrap_or, option_copied, slice_get, IsSome, refl, sym, ap, ap₂, ◌∙◌, arith}
 use Rattle.std.specs.Borrow.{Bor}
-use Rattle.std.proofs.lemmas.List.{drop_more, get_or_default, get_or_past, drop_all}
-use Rattle.std.proofs.lemmas.Str.{IsUtf8-from_ascii}
-use Rattle.std.proofs.lemmas.Bool.{cases_lt}
+use Rattle.std.proofs.lemmas.List.{drop_more, drop_all}
 use Rattle.std.proofs.lemmas.Option.{none-some, slice_get-get_or}
-use Rattle.fp_base.specs.Escape.{escaped_name, IsNameByte, AreBytes}
-use Rattle.fp_base.proofs.EscapeLemmas.{escaped_name-bytes}
+use Rattle.fp_base.specs.Escape.{escaped_name}
 use Rattle.fp_model.specs.declared.class.Class.{Class}
 use Rattle.fp_model.specs.Descriptor.{text_of}
 use Rattle.fp_model.specs.ClassSet.{earlier, least_text, marked_names}

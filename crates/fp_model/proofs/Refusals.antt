@@ -4,7 +4,7 @@ use Rattle.std.specs.List.{range_with_len}
 use Rattle.std.specs.Option.{option_or}
 use Rattle.std.proofs.lemmas.List.FromFn.{length-map-range_with_len}
 use Rattle.fp_model.specs.declared.class.Class.{Class}
-use Rattle.fp_model.specs.ClassSet.{SetRefusal, Duplicate, SuperCycle, IsClassOver, refusal_of, least_text, marked_names, namesake_marks, cycle_marks, class_named}
+use Rattle.fp_model.specs.ClassSet.{Duplicate, SuperCycle, IsClassOver, refusal_of, least_text, marked_names, namesake_marks, cycle_marks, class_named}
 
 -- the first name of the marked classes, as it was found
 name_found : {Z : Type 0} (names : List (List ℕ)) (classes : List Class) (marks items xs : List Bool) (found is : Option (String Z)) → items ≡ marks → xs ≡ items → option_map string_bytes found ≡ least_text (marked_names names classes xs) → found ≡ is → least_text (marked_names names classes marks) ≡ option_map string_bytes is

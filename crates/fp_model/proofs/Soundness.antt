@@ -1,13 +1,12 @@
 -- A set is refused exactly where it is not sound.
-use Rattle.std.proofs.Common.{◌≡◌, ◌≢◌, ℕ, zero, suc, ◌+◌, ◌-◌, ◌<◌, ◌≤◌, Bool, true, false, cond, eqb, nat_lt, ◌==◌, ◌⊎◌, inl, inr, ⊎_elim, List, [], ◌∷◌, length, map, filter, zip, get_or, count_by, slice_get, Option, Some, None, option_map, refl, sym, ap, subst, ◌∙◌, arith, eqb-true, eq-eqb, lt-ltb, ltb-true}
-use Rattle.std.specs.List.{range_with_len}
+use Rattle.std.proofs.Common.{◌≡◌, ◌≢◌, ℕ, zero, suc, ◌-◌, ◌<◌, Bool, true, false, eqb, ◌==◌, ⊎_elim, List, [], ◌∷◌, length, get_or, count_by, slice_get, Option, Some, None, option_map, refl, sym, ap, ◌∙◌, arith, eqb-true, eq-eqb, lt-ltb, ltb-true}
 use Rattle.std.specs.Option.{option_or}
-use Rattle.std.proofs.lemmas.Bool.{cases_lt, cases_order, cases_Bool, false≢true, false_from_ne_true}
+use Rattle.std.proofs.lemmas.Bool.{cases_lt, cases_order, false≢true, false_from_ne_true}
 use Rattle.std.proofs.lemmas.List.{get_or-map, get_or_past, length-map}
 use Rattle.std.proofs.lemmas.List.FromFn.{get_or-map-range_with_len, length-map-range_with_len}
 use Rattle.std.proofs.lemmas.Option.{none-some, slice_get_within, get_or_from_slice_get, slice_get-get_or}
 use Rattle.fp_model.specs.declared.class.Class.{Class}
-use Rattle.fp_model.specs.ClassSet.{SetView, SetRefusal, Duplicate, SuperCycle, IsSound, IsFirstOf, refusal_of, least_text, marked_names, namesake_marks, cycle_marks, has_namesake, is_on_cycle, ancestor_after, superclass_of, comes_back}
+use Rattle.fp_model.specs.ClassSet.{SetView, SetRefusal, Duplicate, SuperCycle, IsSound, IsFirstOf, refusal_of, least_text, marked_names, namesake_marks, cycle_marks, has_namesake, is_on_cycle, ancestor_after, superclass_of}
 use Rattle.fp_model.proofs.FirstText.{least_text-None, least_text-Some}
 use Rattle.fp_model.proofs.Counting.{counted_two, two_counted}
 use Rattle.fp_model.proofs.Reaching.{superclass_of-within}

@@ -1,6 +1,6 @@
 -- Steps of a partial function on numbers, and where they come back.
-use Rattle.std.proofs.Common.{◌≡◌, ℕ, zero, suc, ◌+◌, ◌-◌, ◌*◌, ◌<◌, ◌≤◌, Bool, true, false, ◌||◌, eqb, Option, Some, None, option_and_then, unwrap_or, ◌⊎◌, inl, inr, ⊎_elim, refl, sym, ap, subst, ◌∙◌, arith, zero-add, suc-add, suc-mul, add_comm, add-one, one-add}
-use Rattle.std.proofs.lemmas.Option.{option_and_then_some, none-some, same_Some}
+use Rattle.std.proofs.Common.{◌≡◌, ℕ, zero, suc, ◌+◌, ◌-◌, ◌*◌, ◌<◌, ◌≤◌, true, Option, Some, None, option_and_then, unwrap_or, ⊎_elim, refl, sym, ap, subst, ◌∙◌, arith, zero-add, suc-add, suc-mul}
+use Rattle.std.proofs.lemmas.Option.{option_and_then_some, same_Some}
 use Rattle.std.proofs.lemmas.Bool.{or_cases, or_left, or_right, eqb-true, eq-eqb, cases_eq, false≢true}
 use Rattle.fp_model.specs.ClassSet.{after_steps, comes_back, is_number}
 use Rattle.fp_model.proofs.Pigeonhole.{two_share}

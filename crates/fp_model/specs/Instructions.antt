@@ -33,20 +33,20 @@ unfoldable pub fixed_instr : ℕ → Option Instr
 fixed_instr op =
     if op == 0 then Some instr.Nop
     else if op == 1 then Some instr.Null
-    else if nat_lt op 9 then Some (instr.Const sort.Int)       -- iconst_m1 to iconst_5
-    else if nat_lt op 11 then Some (instr.Const sort.Long)     -- lconst_0, lconst_1
-    else if nat_lt op 14 then Some (instr.Const sort.Float)    -- fconst_0 to fconst_2
-    else if nat_lt op 16 then Some (instr.Const sort.Double)   -- dconst_0, dconst_1
-    else if nat_lt op 18 then Some (instr.Const sort.Int)      -- bipush, sipush
+    else if nat_lt op 9 then Some (instr.Const sort.Int)  -- iconst_m1 to iconst_5
+    else if nat_lt op 11 then Some (instr.Const sort.Long)  -- lconst_0, lconst_1
+    else if nat_lt op 14 then Some (instr.Const sort.Float)  -- fconst_0 to fconst_2
+    else if nat_lt op 16 then Some (instr.Const sort.Double)  -- dconst_0, dconst_1
+    else if nat_lt op 18 then Some (instr.Const sort.Int)  -- bipush, sipush
     else if nat_lt op 26 then None
     else if nat_lt op 46 then Some (instr.Load (type_sort ((op - 26) / 4)) ((op - 26) % 4))
     else if nat_lt op 54 then Some (instr.ArrayLoad op)
     else if nat_lt op 59 then None
     else if nat_lt op 79 then Some (instr.Store (type_sort ((op - 59) / 4)) ((op - 59) % 4))
     else if nat_lt op 87 then Some (instr.ArrayStore op)
-    else if nat_lt op 96 then Some (instr.Shuffle op)          -- pop to swap
+    else if nat_lt op 96 then Some (instr.Shuffle op)  -- pop to swap
     else if op == 132 then None
-    else if nat_lt op 153 then Some (instr.Op op)              -- arithmetic, conversions, comparisons
+    else if nat_lt op 153 then Some (instr.Op op)  -- arithmetic, conversions, comparisons
     else if nat_lt op 172 then None
     else if nat_lt op 178 then Some (instr.Return op)
     else if op == 190 then Some instr.ArrayLength

@@ -9,14 +9,21 @@ ghost use Rattle.fp_cells.specs.Texts.{FitsKind, value_text_of};
 ghost use Rattle.fp_report.specs.Report.{cell_line, cell_targets, count_line, demanded_from, line_at, report, target_texts, targets_of, IsCellOf, IsReportable};
 
 use fp_base::sort_texts;
-use fp_cells::{Cells, Entity, JavaView, KindId, append_entity, count_places, kind_text, value_text};
+use fp_cells::{
+    Cells, Entity, JavaView, KindId, append_entity, count_places, kind_text, value_text,
+};
 use fp_eqs::Solved;
 use fp_model::{ClassSet, MethodId, SiteId};
 use sqlite_items::Items;
 use std::alloc::{AllocError, Global};
 
 /// The lines of the report, in order, each with its end.
-pub fn report_lines(alloc: Global, set: &ClassSet, system: &JavaView<'_>, solved: &Solved) -> Result<Vec<Vec<u8>>, AllocError>
+pub fn report_lines(
+    alloc: Global,
+    set: &ClassSet,
+    system: &JavaView<'_>,
+    solved: &Solved,
+) -> Result<Vec<Vec<u8>>, AllocError>
     requires { IsReportable set.now system.now.cells.now system.now.targets.now system.now.shown.now (length solved.now.values) (length solved.now.wanted) }
     ensures { IfOk result (λ lines. map (λ l. l.items) lines.items ≡ report set.now system.now.cells.now system.now.targets.now system.now.shown.now (slice_index solved.now.values) (flag_at solved.now.wanted)) }
 {
@@ -30,7 +37,12 @@ pub fn report_lines(alloc: Global, set: &ClassSet, system: &JavaView<'_>, solved
 }
 
 /// The lines of the shown cells, in the order of their places, without their ends.
-fn shown_lines(alloc: Global, set: &ClassSet, system: &JavaView<'_>, values: &[u64]) -> Result<Vec<Vec<u8>>, AllocError>
+fn shown_lines(
+    alloc: Global,
+    set: &ClassSet,
+    system: &JavaView<'_>,
+    values: &[u64],
+) -> Result<Vec<Vec<u8>>, AllocError>
     requires cells { All (IsCellOf set.now system.now.targets.now) system.now.cells.now }
     requires shown { All (λ p. cell_from system.now.cells.now 0 p ≢ None) system.now.shown.now }
     requires values { length values.now ≡ total_places system.now.cells.now }
@@ -45,7 +57,13 @@ fn shown_lines(alloc: Global, set: &ClassSet, system: &JavaView<'_>, values: &[u
 }
 
 /// The line of the cell whose first place this is.
-fn shown_line(alloc: Global, set: &ClassSet, system: &JavaView<'_>, values: &[u64], place: u32) -> Result<Vec<u8>, AllocError>
+fn shown_line(
+    alloc: Global,
+    set: &ClassSet,
+    system: &JavaView<'_>,
+    values: &[u64],
+    place: u32,
+) -> Result<Vec<u8>, AllocError>
     requires cells { All (IsCellOf set.now system.now.targets.now) system.now.cells.now }
     requires there { cell_from system.now.cells.now 0 place ≢ None }
     requires values { length values.now ≡ total_places system.now.cells.now }
@@ -70,7 +88,14 @@ fn words_at(values: &[u64], first: u32, count: u32) -> &[u64]
 }
 
 /// The line of a cell, by its words and the texts of its targets.
-fn line_of(alloc: Global, set: &ClassSet, kind: KindId, entity: Entity, words: &[u64], targets: &[Vec<u8>]) -> Result<Vec<u8>, AllocError>
+fn line_of(
+    alloc: Global,
+    set: &ClassSet,
+    kind: KindId,
+    entity: Entity,
+    words: &[u64],
+    targets: &[Vec<u8>],
+) -> Result<Vec<u8>, AllocError>
     requires entity { IsEntityOf set.now entity }
     requires places { FitsKind kind (length words.now) (length targets.now) }
     ensures { IfOk result (λ line. line.items ≡ kind_text kind ++ (32 ∷ (entity_text set.now entity ++ (32 ∷ value_text_of kind words.now (map (λ t. t.items) targets.now))))) }
@@ -84,7 +109,11 @@ fn line_of(alloc: Global, set: &ClassSet, kind: KindId, entity: Entity, words: &
 }
 
 /// The methods that a cell has a bit for.
-fn cell_targets<'a>(targets: &'a [(SiteId, Items<MethodId>)], kind: KindId, entity: Entity) -> &'a [MethodId]
+fn cell_targets<'a>(
+    targets: &'a [(SiteId, Items<MethodId>)],
+    kind: KindId,
+    entity: Entity,
+) -> &'a [MethodId]
     ensures { result.now ≡ cell_targets targets.now kind entity }
 {
     match (kind, entity) {
@@ -106,7 +135,11 @@ fn targets_of<'a>(targets: &'a [(SiteId, Items<MethodId>)], site: SiteId) -> &'a
 }
 
 /// The texts of methods.
-fn target_texts(alloc: Global, set: &ClassSet, methods: &[MethodId]) -> Result<Vec<Vec<u8>>, AllocError>
+fn target_texts(
+    alloc: Global,
+    set: &ClassSet,
+    methods: &[MethodId],
+) -> Result<Vec<Vec<u8>>, AllocError>
     requires { All (λ m. m < length (methods_of set.now.classes)) methods.now }
     ensures { IfOk result (λ texts. map (λ t. t.items) texts.items ≡ target_texts set.now methods.now) }
 {

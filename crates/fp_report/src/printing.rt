@@ -29,7 +29,14 @@ pub enum PrintFault {
 
 /// Puts the report on a solved system: a line for each shown cell, in the order of their bytes, and one with the number of
 /// demanded cells. All lines are made before the first is put, and each is one put. The job asks for neither all cells nor cycles.
-pub fn print<S: Sink>(alloc: Global, set: &ClassSet, system: &JavaView<'_>, solved: &Solved, job: &Job, sink: &mut S) -> Result<(), PrintFault>
+pub fn print<S: Sink>(
+    alloc: Global,
+    set: &ClassSet,
+    system: &JavaView<'_>,
+    solved: &Solved,
+    job: &Job,
+    sink: &mut S,
+) -> Result<(), PrintFault>
     requires plain { (job.now.all ≡ false) × (job.now.cycles ≡ false) }
     requires view { IsReportable set.now system.now.cells.now system.now.targets.now system.now.shown.now (length solved.now.values) (length solved.now.wanted) }
     ensures whole { OnOk result (S.told sink.new ≡ append_known (S.told sink.old) (flat_map (λ line. line) (report set.now system.now.cells.now system.now.targets.now system.now.shown.now (slice_index solved.now.values) (flag_at solved.now.wanted)))) }

@@ -112,6 +112,6 @@ solved-report set asked cells system shown solved cells_are system_is shown_are 
     let values : slice_index solved.values ≡ solution e = values_are ∙ ap (λ (x : Equations). solution x) system_is in
     let wanted : flag_at solved.wanted ≡ demand e = (λ i p. is.wanted p i) ∙ ap (λ (x : Equations). demand x) system_is in
     sym (
-      ap (λ (cs : List Cell). report set cs [] shown (slice_index solved.values) (flag_at solved.wanted)) cells_are
-      ∙ ap (λ (ps : List ℕ). report set (java_cells set.classes) [] ps (slice_index solved.values) (flag_at solved.wanted)) shown_are
-      ∙ ap₂ (λ (v : ℕ → ℕ) (w : ℕ → Bool). report set (java_cells set.classes) [] (shown_from set asked.show 0 (java_cells set.classes)) v w) values wanted)
+    ap (λ (cs : List Cell). report set cs [] shown (slice_index solved.values) (flag_at solved.wanted)) cells_are
+    ∙ ap (λ (ps : List ℕ). report set (java_cells set.classes) [] ps (slice_index solved.values) (flag_at solved.wanted)) shown_are
+    ∙ ap₂ (λ (v : ℕ → ℕ) (w : ℕ → Bool). report set (java_cells set.classes) [] (shown_from set asked.show 0 (java_cells set.classes)) v w) values wanted)

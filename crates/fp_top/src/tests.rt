@@ -183,7 +183,15 @@ fn refuses_another_number_of_files_than_one_and_a_long_file(rt: HostRuntime) -> 
 
 /// The words of a run that shows these items.
 fn showing<'a>(analyses: &'a str, show: &'a str) -> [&'a str; 7] {
-    ["--analyses", analyses, "--show", show, "--workers", "1", "d"]
+    [
+        "--analyses",
+        analyses,
+        "--show",
+        show,
+        "--workers",
+        "1",
+        "d",
+    ]
 }
 
 #[test]
@@ -226,7 +234,13 @@ fn shows_what_the_words_select(rt: HostRuntime) -> Result<(), Fail> {
             "",
             "selection: declared=B\n",
         ),
-        ("declared", "nope", Status::Selection, "", "selection: nope\n"),
+        (
+            "declared",
+            "nope",
+            Status::Selection,
+            "",
+            "selection: nope\n",
+        ),
         (
             "declared",
             "reach=A.x:I,nope",
@@ -235,7 +249,13 @@ fn shows_what_the_words_select(rt: HostRuntime) -> Result<(), Fail> {
             "selection: reach=A.x:I\n",
         ),
         ("nope", "none", Status::Selection, "", "selection: nope\n"),
-        ("declared,rta", "none", Status::Selection, "", "selection: rta\n"),
+        (
+            "declared,rta",
+            "none",
+            Status::Selection,
+            "",
+            "selection: rta\n",
+        ),
     ];
     for (analyses, show, status, out, err) in cases {
         let files = files(alloc, &["d/A.class"], &A_FINAL)?;
@@ -284,10 +304,13 @@ fn the_lines_of_classes_stand_in_the_order_of_their_bytes(rt: HostRuntime) -> Re
     let alloc = rt.alloc();
     let words = texts(alloc, &showing("declared", "immut=B,declared,inst=b/C"))?;
     let job = job_of(alloc, &words).ok().ok_or("no job")?;
-    let run = solve(alloc, three_classes(alloc)?, job).ok().ok_or("no run")?;
+    let run = solve(alloc, three_classes(alloc)?, job)
+        .ok()
+        .ok_or("no run")?;
     let mut out = MemSink::new(alloc, Vec::new(alloc));
     assert_eq!(rt; put_report(alloc, run, &mut out), Ok(()));
-    let wanted = "declared B open\ndeclared a\\x2eA open\ndeclared b/C open\nimmut B mutable\ninst b/C present\ncells 5\n";
+    let wanted =
+        "declared B open\ndeclared a\\x2eA open\ndeclared b/C open\nimmut B mutable\ninst b/C present\ncells 5\n";
     assert_eq!(rt; out.bytes(), wanted.as_bytes());
     Ok(())
 }
@@ -300,7 +323,10 @@ fn a_report_that_fails_is_a_first_part(rt: HostRuntime) -> Result<(), Fail> {
         (&[(0, 9)], "assign A."),
         (&[(1, 1)], "assign A.x:I assignable\nd"),
         (&[(2, 3)], "assign A.x:I assignable\ndeclared A final\ncel"),
-        (&[(2, 99)], "assign A.x:I assignable\ndeclared A final\ncells 2\n"),
+        (
+            &[(2, 99)],
+            "assign A.x:I assignable\ndeclared A final\ncells 2\n",
+        ),
     ];
     for (failing_puts, out) in cases {
         let files = files(alloc, &["d/A.class"], &A_FINAL)?;

@@ -25,5 +25,5 @@ line_of-requires-clause-places c =
     let cell = begun-all (IsCellOf c.args.set.now c.args.system.now.targets.now) c.args.system.now.cells.now c.args.place c.in-Some.kind c.in-Some.entity c.in-Some.bits c.requires.cells c.in-Some.ensures.cell in
     let words : length c.words_at-words.result.now ≡ c.count_places.result = length-words (slice_index c.args.values.now) c.args.place c.count_places.result c.words_at-words.result.now c.words_at-words.ensures in
     let texts : length c.deref.result.now ≡ length c.cell_targets-methods.result.now =
-      ap (λ (l : List (Vec ℕ Global)). length l) c.deref.ensures.value ∙ length-texts c.args.set.now c.in_ok-targets.targets.items c.cell_targets-methods.result.now c.in_ok-targets.ensures in
+    ap (λ (l : List (Vec ℕ Global)). length l) c.deref.ensures.value ∙ length-texts c.args.set.now c.in_ok-targets.targets.items c.cell_targets-methods.result.now c.in_ok-targets.ensures in
     rw (words ∙ c.count_places.ensures, texts, c.cell_targets-methods.ensures) cell.places

@@ -2,7 +2,7 @@
 use Rattle.std.proofs.Common.{◌≡◌, ◌+◌, List, length, map, None, ap, subst, ◌∙◌}
 use Rattle.std.specs.List.{range_with_len}
 use Rattle.fp_model.specs.declared.class.Class.{Class}
-use Rattle.fp_model.specs.ClassSet.{IsSound, refusal_of, class_named, first_field_of, first_method_of}
+use Rattle.fp_model.specs.ClassSet.{refusal_of, class_named, first_field_of, first_method_of}
 use Rattle.fp_model.proofs.Soundness.{sound_where_unrefused}
 use Rattle.fp_model.proofs.class_set.ClassSet.build.Goals as goal
 

@@ -1,6 +1,5 @@
 -- The owner by the first numbers.
-use Rattle.std.proofs.Common.{◌<◌, length, refl, subst, sym, ◌∙◌}
-use Rattle.fp_model.specs.declared.class.Class.{Class}
+use Rattle.std.proofs.Common.{length, refl, ◌∙◌}
 use Rattle.fp_model.specs.ClassSet.{first_field_of}
 use Rattle.fp_model.proofs.Owners.{known, all_members, has_owner, owner_found}
 use Rattle.fp_model.proofs.class_set.ClassSet.class_of_field.Goals as goal

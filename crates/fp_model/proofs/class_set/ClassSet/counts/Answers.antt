@@ -1,5 +1,5 @@
 -- The numbers behind the last class.
-use Rattle.std.proofs.Common.{◌≡◌, ◌+◌, ◌<◌, length, ap, ◌∙◌, arith}
+use Rattle.std.proofs.Common.{◌≡◌, length, ap, ◌∙◌, arith}
 use Rattle.fp_model.specs.declared.class.Class.{Class}
 use Rattle.fp_model.specs.ClassSet.{SetView, first_field_of, first_method_of}
 use Rattle.fp_model.proofs.Owners.{known, firsts_len, first_at, all_members}

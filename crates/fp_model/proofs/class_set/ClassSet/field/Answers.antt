@@ -1,5 +1,5 @@
 -- The member stands among those of its class.
-use Rattle.std.proofs.Common.{◌-◌, ◌<◌, length, ap, arith}
+use Rattle.std.proofs.Common.{length, ap, arith}
 use Rattle.fp_model.specs.declared.class.Class.{Class}
 use Rattle.fp_model.proofs.Owners.{member_within, member_read}
 use Rattle.fp_model.proofs.class_set.ClassSet.field.Goals as goal

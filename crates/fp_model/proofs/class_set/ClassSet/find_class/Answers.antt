@@ -1,5 +1,5 @@
 -- The index has the first class of each name.
-use Rattle.std.proofs.Common.{◌≡◌, slice_get, option_copied, ap, sym, ◌∙◌, arith}
+use Rattle.std.proofs.Common.{slice_get, ap, ◌∙◌}
 use Rattle.std.specs.Option.{option_flatten}
 use Rattle.fp_model.proofs.Finding.{found_by_index}
 use Rattle.fp_model.proofs.Owners.{known}

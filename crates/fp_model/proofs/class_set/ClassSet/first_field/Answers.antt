@@ -1,5 +1,5 @@
 -- The first numbers are those that were counted.
-use Rattle.std.proofs.Common.{◌<◌, length, ◌∙◌, arith}
+use Rattle.std.proofs.Common.{length, ◌∙◌, arith}
 use Rattle.fp_model.specs.ClassSet.{first_field_of}
 use Rattle.fp_model.proofs.Owners.{known, firsts_len, first_at}
 use Rattle.fp_model.proofs.class_set.ClassSet.first_field.Goals as goal

@@ -1,5 +1,5 @@
 -- One class more, from the last to the first.
-use Rattle.std.proofs.Common.{◌<◌, ◌-◌, length, get_or, Some, ap, ap₂, ◌∙◌, arith}
+use Rattle.std.proofs.Common.{◌-◌, length, get_or, Some, ap, ap₂, ◌∙◌, arith}
 use Rattle.fp_base.specs.Escape.{escaped_name}
 use Rattle.fp_model.specs.ClassSet.{earlier}
 use Rattle.fp_model.proofs.Naming.{least_none, least_marked, least_unmarked, text_found, text_known}

@@ -1,5 +1,5 @@
 -- The superclass of one class more.
-use Rattle.std.proofs.Common.{◌<◌, ◌∙◌, arith}
+use Rattle.std.proofs.Common.{◌∙◌, arith}
 use Rattle.fp_model.proofs.Indexing.{superclasses_more}
 use Rattle.fp_model.proofs.class_set.cycles.superclasses.Goals as goal
 

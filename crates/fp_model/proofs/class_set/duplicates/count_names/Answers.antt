@@ -1,5 +1,5 @@
 -- One class more is counted.
-use Rattle.std.proofs.Common.{◌≡◌, ◌<◌, ◌==◌, length, count_by, ap, ◌∙◌, arith, length-set, take_all}
+use Rattle.std.proofs.Common.{◌==◌, length, count_by, ap, ◌∙◌, arith, length-set, take_all}
 use Rattle.std.proofs.lemmas.List.FromFn.{fill_by_all}
 use Rattle.fp_model.specs.declared.class.Class.{Class}
 use Rattle.fp_model.specs.ClassSet.{IsClassOver}

@@ -1,5 +1,5 @@
 -- The mark of one class more.
-use Rattle.std.proofs.Common.{◌≡◌, ◌<◌, ◌==◌, ◌++◌, ◌∷◌, [], length, nat_lt, count_by, ap, ◌∙◌, arith}
+use Rattle.std.proofs.Common.{◌==◌, ◌++◌, ◌∷◌, [], length, nat_lt, count_by, ap, ◌∙◌, arith}
 use Rattle.std.proofs.lemmas.List.FromFn.{length-map-range_with_len}
 use Rattle.fp_model.specs.declared.class.Class.{Class}
 use Rattle.fp_model.specs.ClassSet.{IsClassOver}

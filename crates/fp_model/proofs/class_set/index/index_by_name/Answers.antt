@@ -1,7 +1,5 @@
 -- One class more in the index.
-use Rattle.std.proofs.Common.{◌≡◌, ◌<◌, length, get_or, take, map, Some, None, ap, ◌∙◌, arith, length-set, take_all}
-use Rattle.std.specs.List.{range_with_len}
-use Rattle.std.specs.Option.{option_or}
+use Rattle.std.proofs.Common.{length, None, ap, ◌∙◌, arith, length-set, take_all}
 use Rattle.std.proofs.lemmas.List.FromFn.{fill_by_all}
 use Rattle.fp_model.specs.ClassSet.{class_named, IsClassOver}
 use Rattle.fp_model.proofs.Indexing.{index_more, one_of_all}

@@ -1,5 +1,5 @@
 -- The member lies between the first members of the two classes.
-use Rattle.std.proofs.Common.{◌+◌, ◌-◌, ◌<◌, ◌≤◌, length, slice_index}
+use Rattle.std.proofs.Common.{◌-◌, ◌<◌, ◌≤◌, length, slice_index}
 use Rattle.fp_model.proofs.class_set.index.owner.Given as goal
 
 abbrev pub invariant-loop-high : goal.invariant-loop-high
