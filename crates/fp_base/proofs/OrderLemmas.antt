@@ -1,10 +1,9 @@
 -- Ascending texts that are others in another order are these in their order.
-use Rattle.std.proofs.Common.{◌≡◌, ℕ, zero, suc, ◌+◌, ◌<◌, ◌≤◌, Bool, true, false, cond, List, [], ◌∷◌, length, map, All, get_or, inl, inr, ⊎_elim, refl, sym, ap, subst, ◌∙◌, is_lt, is_gt, nat_cmp, Ordering, Less, Equal, Greater, arith}
+use Rattle.std.proofs.Common.{◌≡◌, ℕ, zero, suc, ◌+◌, ◌<◌, ◌≤◌, true, false, cond, List, [], ◌∷◌, length, map, All, get_or, ⊎_elim, refl, sym, ap, subst, ◌∙◌, is_lt, is_gt, nat_cmp, Ordering, Less, Equal, Greater, arith}
 use Rattle.std.specs.Prelude.{⊤}
 use Rattle.std.specs.Cmp.Lexicographic.{slice_cmp}
 use Rattle.std.specs.Ordering.{ordering_reverse, is_eq}
 use Rattle.std.specs.Str.{bytes_eq}
-use Rattle.std.specs.List.{sum_by}
 use Rattle.std.specs.List.Sorted.{IsPermutation, IsSorted}
 use Rattle.std.proofs.lemmas.Cmp.{nat_list_cmp_total, upto, tied_itself}
 use Rattle.std.proofs.lemmas.Bool.{cases_Bool, cond-true, cond-false, cond_both, false≢true, true≢false}

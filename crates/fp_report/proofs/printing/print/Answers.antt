@@ -1,10 +1,9 @@
-use Rattle.std.proofs.Common.{◌≡◌, ◌∙◌, ℕ, List, ap, subst, slice_index}
-use Rattle.std.specs.List.{flat_map}
+use Rattle.std.proofs.Common.{◌∙◌, ap, subst, slice_index}
 use Rattle.std.specs.Io.KnownBytes.{append_known}
 use Rattle.fp_base.specs.Faults.{AppendsPart}
 use Rattle.fp_eqs.specs.Solved.{flag_at}
 use Rattle.fp_report.specs.Report.{report}
-use Rattle.fp_report.proofs.LineLemmas.{joined, joined-report}
+use Rattle.fp_report.proofs.LineLemmas.{joined-report}
 use Rattle.fp_report.proofs.printing.print.Goals as goal
 
 pub returns-in-Ok-put_lines-clause-whole : goal.returns-in-Ok-put_lines-clause-whole
