@@ -1,6 +1,9 @@
 -- What a refusal says of the status and of the text of a run.
-use Rattle.std.proofs.Common.{◌≡◌, ◌≢◌, ◌⊎◌, ℕ, Bool, List, [], ◌∷◌, ◌++◌, length, Option, Some, None, IsTrue, refl, sym, ap, ◌∙◌, inl, inr, length-append, arith}
-use Rattle.std.specs.Prelude.{IsNone, string_bytes}
+use Rattle.std.proofs.Common.{◌≡◌, ◌≢◌, ◌⊎◌, ℕ, Bool, List, [], ◌∷◌, ◌++◌, length, Option, Some, None, Result, Ok, Err, IsTrue, refl, sym, ap, ◌∙◌, inl, inr, length-append, arith}
+use Rattle.std.specs.Prelude.{IsNone, OnErr, OnOk, string_bytes}
+use Rattle.std.specs.Io.KnownBytes.{append_known}
+use Rattle.fp_base.specs.declared.outside.sink.SinkFault.{SinkFault}
+use Rattle.fp_base.proofs.SinkLemmas.{part-all}
 use Rattle.fp_base.specs.Files.{File}
 use Rattle.fp_base.specs.Calls.{Call, Gained}
 use Rattle.fp_top.specs.declared.status.Status.{Status}
@@ -78,3 +81,8 @@ fault_of words dir listed before now err err' (refusal.Cycle name) names blames 
 fault_of words dir listed before now err err' (refusal.Selection item) names blames is part = absurd cc
 fault_of words dir listed before now err err' (refusal.Limit bound most) names blames is part = absurd cc
 fault_of words dir listed before now err err' refusal.Memory names blames is part = absurd cc
+
+-- a text that is put is a first part of itself, whatever the put answers
+pub put-part : {T : Type 0} (old new : Option (List ℕ)) (text : List ℕ) (result : Result T SinkFault) → OnOk result (new ≡ append_known old text) → OnErr result (AppendsPart old new text) → AppendsPart old new text
+put-part old new text (Ok x) whole part = part-all old new text whole
+put-part old new text (Err e) whole part = part

@@ -4,7 +4,7 @@ use Rattle.std.specs.Prelude.{option_map, option_and_then}
 use Rattle.std.specs.List.{list_all}
 use Rattle.std.proofs.lemmas.Option.{none-some, same_Some}
 use Rattle.std.proofs.lemmas.Bool.{cond-false, le-ltb}
-use Rattle.fp_words.specs.Words.{Asked, Given, RunAsked, asked, is_plain, none_given, one_worker, options_of, run_of, run_with, run_asked}
+use Rattle.fp_words.specs.Words.{Asked, Given, RunAsked, asked, is_plain, none_given, one_worker, options_of, order_of, run_of, run_with, run_asked}
 use Rattle.fp_words.specs.Lists.{list_items}
 use Rattle.fp_top.specs.Words.{asked_of}
 use Rattle.fp_words.specs.Words.Asked.{Run, Generate}
@@ -35,21 +35,40 @@ run_of-short : (given : Given) (words : List (List ℕ)) (r : RunAsked) → run_
 run_of-short given [] r is = absurd (none-some r is)
 run_of-short given (dir ∷ roots) r is = run_with-short given dir roots r (if_some (list_all is_plain (dir ∷ roots)) (run_with given dir roots) r is)
 
-pub asked-short : (words : List (List ℕ)) (r : RunAsked) → run_asked words ≡ Some r → (r.all ≡ false) × (r.cycles ≡ false)
+asked-short : (words : List (List ℕ)) (r : RunAsked) → run_asked words ≡ Some r → (r.all ≡ false) × (r.cycles ≡ false)
 asked-short words = and_then_holds IsShort _ (options_of none_given words) (λ parts r is. run_of-short parts.0 parts.1 r is)
 
-pub run-known : (o : Option RunAsked) (r : RunAsked) → option_map Run o ≡ Some (Run r) → o ≡ Some r
+run-known : (o : Option RunAsked) (r : RunAsked) → option_map Run o ≡ Some (Run r) → o ≡ Some r
 run-known None r is = absurd (none-some (Run r) is)
 run-known (Some q) r is = let same : Run q ≡ Run r = same_Some (Run q) (Run r) is in cc
 
-pub never-generate : (o : Option RunAsked) (seed classes workers : ℕ) → option_map Run o ≡ Some (Generate seed classes workers) → ⊥
+never-generate : (o : Option RunAsked) (seed classes workers : ℕ) → option_map Run o ≡ Some (Generate seed classes workers) → ⊥
 never-generate None seed classes workers is = none-some (Generate seed classes workers) is
 never-generate (Some q) seed classes workers is = let same : Run q ≡ Generate seed classes workers = same_Some (Run q) (Generate seed classes workers) is in cc
 
-pub order-none : (o : Option RunAsked) → option_map Run o ≡ None → o ≡ None
+order-none : (o : Option RunAsked) → option_map Run o ≡ None → o ≡ None
 order-none None is = refl
 order-none (Some q) is = absurd (none-some (Run q) (sym is))
 
--- words that are no more than a run without roots has ask for what their run is
-pub not-more : (words : List (List ℕ)) (r : RunAsked) → length words ≤ 7 → run_asked words ≡ Some r → asked_of words ≡ Some r
-not-more words r few is = cond-false {A = Option RunAsked} (nat_lt 7 (length words)) None (run_asked words) (le-ltb 7 (length words) few) ∙ is
+order-is : (words : List (List ℕ)) → order_of words ≡ option_map Run (run_asked words)
+unfolding order_of
+order-is words = refl
+
+-- words that are no more than those of a run without roots ask for what their run is
+asked-is : (words : List (List ℕ)) → length words ≤ 7 → asked_of words ≡ run_asked words
+asked-is words few = cond-false {A = Option RunAsked} (nat_lt 7 (length words)) None (run_asked words) (le-ltb 7 (length words) few)
+
+pub asked-run : (words : List (List ℕ)) (r : RunAsked) → length words ≤ 7 → order_of words ≡ Some (Run r) → asked_of words ≡ Some r
+asked-run words r few is = asked-is words few ∙ run-known (run_asked words) r (sym (order-is words) ∙ is)
+
+pub short-run : (words : List (List ℕ)) (r : RunAsked) → order_of words ≡ Some (Run r) → (r.all ≡ false) × (r.cycles ≡ false)
+short-run words r is = asked-short words r (run-known (run_asked words) r (sym (order-is words) ∙ is))
+
+pub asked-none : (words : List (List ℕ)) → length words ≤ 7 → order_of words ≡ None → asked_of words ≡ None
+asked-none words few is = asked-is words few ∙ order-none (run_asked words) (sym (order-is words) ∙ is)
+
+pub order-of-none : (words : List (List ℕ)) → length words ≤ 7 → asked_of words ≡ None → order_of words ≡ None
+order-of-none words few is = order-is words ∙ ap (option_map Run) (sym (asked-is words few) ∙ is)
+
+pub never : (words : List (List ℕ)) (seed classes workers : ℕ) → order_of words ≡ Some (Generate seed classes workers) → ⊥
+never words seed classes workers is = never-generate (run_asked words) seed classes workers (sym (order-is words) ∙ is)
