@@ -25,7 +25,7 @@ pub false-if_not : (b : Bool) → (b ≡ true → ⊥) → b ≡ false
 false-if_not true h = absurd (h refl)
 false-if_not false h = refl
 
-or-both : (a b : Bool) → a ≡ false → b ≡ false → (a || b) ≡ false
+pub or-both : (a b : Bool) → a ≡ false → b ≡ false → (a || b) ≡ false
 or-both true b h k = h
 or-both false b h k = k
 

@@ -1,5 +1,6 @@
 mod JavaCellLemmas
 mod MakeLemmas
 mod RowLemmas
+mod ShowLemmas
 mod StartLemmas
 mod TextLemmas

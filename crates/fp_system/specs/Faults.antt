@@ -24,3 +24,9 @@ abbrev pub TellsItem : Option (List ℕ) → SystemFault → Type 0
 TellsItem first (fault.Show item) = first ≡ Some (string_bytes item)
 TellsItem first fault.Memory = Unit {0}
 TellsItem first _ = ⊥
+
+-- the fault tells that there are too many places
+abbrev pub TellsLimit : Option SystemRefusal → SystemFault → Type 0
+TellsLimit refusal (fault.Limit name bound) = (refusal ≡ Some TooManyPlaces) × (name ≡ limit.Places) × (bound ≡ most_places)
+TellsLimit refusal fault.Memory = Unit {0}
+TellsLimit refusal _ = ⊥

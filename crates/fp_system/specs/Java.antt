@@ -144,9 +144,13 @@ pub data SystemRefusal : Type 0 where
   UnknownItem : List ℕ → SystemRefusal
   TooManyPlaces : SystemRefusal
 
+-- there are too many places
+abbrev pub places_refusal : ℕ → Option SystemRefusal
+places_refusal places = if nat_lt most_places places then Some TooManyPlaces else None
+
 -- the first of these
 unfoldable pub system_refusal : SetView → List (List ℕ) → List (List ℕ) → Option SystemRefusal
 system_refusal set analyses show =
     option_or (option_map UnknownAnalysis (first_failing is_analysis analyses))
     (option_or (option_map UnknownItem (first_failing (is_item set) show))
-    (if nat_lt most_places (total_places (java_cells set.classes)) then Some TooManyPlaces else None))
+    (places_refusal (total_places (java_cells set.classes))))

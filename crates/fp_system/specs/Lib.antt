@@ -4,5 +4,7 @@ pub mod Java
 pub mod Kinds
 pub mod Limits
 pub mod Rows
+pub mod Shows
 pub mod Starts
 pub mod Systems
+pub mod Texts

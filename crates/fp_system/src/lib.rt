@@ -1,6 +1,7 @@
 //! The system of equations of a run over Java classes: its cells, the tasks of the selected analyses, and what is shown.
 #![tactic(auto)]
 
+mod build;
 mod cells;
 mod check;
 mod declared;
@@ -9,6 +10,7 @@ mod fault;
 mod fixed;
 mod limits;
 mod rows;
+mod shown;
 mod system;
 mod texts;
 

@@ -7,6 +7,7 @@ use fp_cells::Cells;
 use fp_eqs::{Analysis, Ask, Bound, Gives, Start, System};
 use fp_model::{MethodId, SiteId};
 use sqlite_items::Items;
+use std::alloc::Global;
 
 /// The system of equations of a set of classes and the words of a run.
 #[derive(Drop)]
@@ -25,8 +26,36 @@ pub struct JavaSystem {
 }
 
 impl JavaSystem {
-    ghost use Rattle.std.specs.Prelude.{◌≡◌};
-    ghost use Rattle.fp_system.specs.Systems.{system_cells, system_shown_cells};
+    ghost use Rattle.std.specs.Prelude.{◌≡◌, ◌<◌, ◌^◌, length};
+    ghost use Rattle.fp_system.specs.Java.{equations_of};
+    ghost use Rattle.fp_system.specs.Systems.{system_cells, system_equations, system_shown_cells};
+
+    /// The system over cells, by the equations of its analyses, the word that each place starts with, whether the place is shown,
+    /// and the first places of the shown cells.
+    pub fn new(
+        alloc: Global,
+        cells: Cells,
+        declared: DeclaredTasks,
+        fixed: Vec<u64>,
+        shown: Vec<bool>,
+        shown_cells: Vec<u32>,
+    ) -> JavaSystem
+        requires places { declared.places ≡ length fixed.items }
+        requires few { length fixed.items < 2 ^ 32 }
+        requires long { length shown.items ≡ length fixed.items }
+        ensures cells { system_cells result ≡ cells }
+        ensures equations { system_equations result ≡ equations_of declared.rows fixed.items shown.items }
+        ensures shown { system_shown_cells result ≡ shown_cells.items }
+    {
+        JavaSystem {
+            cells,
+            targets: Vec::new(alloc),
+            declared,
+            fixed: Items::from_vec(fixed),
+            shown: Items::from_vec(shown),
+            shown_cells: Items::from_vec(shown_cells),
+        }
+    }
 
     /// The cells.
     pub fn cells(&self) -> &Cells

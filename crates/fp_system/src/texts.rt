@@ -3,6 +3,7 @@ ghost use Rattle.std.specs.Prelude.{◌≡◌, List, ℕ, IfOk, OnOk};
 ghost use Rattle.fp_base.specs.Files.{texts};
 ghost use Rattle.fp_base.specs.Names.{has_name, with_name};
 ghost use Rattle.fp_system.specs.Java.{has_text};
+ghost use Rattle.fp_system.specs.Texts.{first_parts, part_before};
 
 use fp_base::Names;
 use std::alloc::{AllocError, Global};
@@ -16,6 +17,29 @@ pub fn index_texts(alloc: Global, words: &[String]) -> Result<Names, AllocError>
         add_text(alloc, word.as_bytes(), &mut names)?;
     }
     Ok(names)
+}
+
+/// What stands before the first `=` of each word, to look it up.
+pub fn index_first_parts(alloc: Global, words: &[String]) -> Result<Names, AllocError>
+    ensures { IfOk result (λ names. (text : List ℕ) → has_name names text ≡ has_text (first_parts (texts words.now)) text) }
+{
+    let mut names = Names::new(alloc);
+    for word in words {
+        add_text(alloc, first_part(word.as_bytes()), &mut names)?;
+    }
+    Ok(names)
+}
+
+// What stands before the first `=`, or all of the text.
+fn first_part(text: &[u8]) -> &[u8]
+    ensures { result.now ≡ part_before text.now }
+{
+    for (at, byte) in text.iter().enumerate() {
+        if *byte == b'=' {
+            return &text[..at];
+        }
+    }
+    text
 }
 
 /// Adds a text. A table that is full is taken for want of memory.
