@@ -14,12 +14,14 @@ use crate::declared::DeclaredTasks;
 use crate::fault::SystemFault;
 use crate::fixed::start_words;
 use crate::limits::check_limits;
-use crate::shown::{ShownItems, find_shown};
+use crate::shown::{Shown, ShownItems, find_shown};
 use crate::system::JavaSystem;
 use crate::texts::index_texts;
 use fp_base::Names;
 use fp_cells::Cells;
+use fp_facts::Loaded;
 use fp_model::ClassSet;
+use fp_words::Job;
 use std::alloc::{AllocError, Global};
 
 /// The equations of `declared`, where that is selected.
@@ -49,5 +51,45 @@ pub fn check_places(cells: &Cells) -> Result<(), SystemFault>
     match check_limits(u64::from(cells.places()), 0, 0) {
         Ok(()) => Ok(()),
         Err((name, bound)) => Err(SystemFault::Limit(name, bound)),
+    }
+}
+
+impl JavaSystem {
+    /// Builds the system of a set for the words of a run, or tells the first of: an analysis that there isn't, a shown item that is
+    /// neither a kind nor a cell, more places than a system may have.
+    pub fn build(alloc: Global, loaded: &Loaded, job: &Job) -> Result<JavaSystem, SystemFault>
+        ensures cells { IfOk result (λ s. system_cells s ≡ java_cells loaded.now.set.classes) }
+        ensures equations { IfOk result (λ s. system_equations s
+            ≡ java_equations loaded.now.set (texts job.now.analyses) (texts job.now.show)) }
+        ensures shown { IfOk result (λ s. system_shown_cells s
+            ≡ shown_from loaded.now.set (texts job.now.show) 0 (java_cells loaded.now.set.classes)) }
+        ensures accepted { OnOk result
+            (system_refusal loaded.now.set (texts job.now.analyses) (texts job.now.show) ≡ None) }
+        ensures refused { IfErr result
+            (TellsSystemRefusal (system_refusal loaded.now.set (texts job.now.analyses) (texts job.now.show))) }
+    {
+        let set = &loaded.set;
+        if let Err(fault) = check_analyses(job.analyses.as_slice()) {
+            return Err(fault);
+        }
+        let cells = make_cells(alloc, set)?;
+        let items = ShownItems::index(alloc, job.show.as_slice())?;
+        let shown = find_shown(alloc, set, &cells, &items)?;
+        if let Err(fault) = check_items(job.show.as_slice(), &shown.found) {
+            return Err(fault);
+        }
+        if let Err(fault) = check_places(&cells) {
+            return Err(fault);
+        }
+        let selected = index_texts(alloc, job.analyses.as_slice())?;
+        let declared = select_declared(alloc, set, &cells, &selected)?;
+        let fixed = start_words(alloc, &cells, &selected)?;
+        let _places = cells.places();
+        let Shown {
+            flags,
+            cells: first_places,
+            found: _found,
+        } = shown;
+        Ok(JavaSystem::new(alloc, cells, declared, fixed, flags, first_places))
     }
 }
