@@ -1,5 +1,5 @@
 -- The words that places start with, cell after cell.
-use Rattle.std.proofs.Common.{◌≡◌, ℕ, ◌+◌, ◌-◌, ◌*◌, ◌<◌, Bool, cond, List, [], ◌∷◌, ◌++◌, Option, Some, None, length, map, take, get_or, slice_get, flat_map, refl, sym, ap, ◌∙◌, append-nil, append_assoc, zero-add, length-append}
+use Rattle.std.proofs.Common.{◌≡◌, ℕ, ◌+◌, ◌-◌, ◌*◌, Bool, cond, List, [], ◌∷◌, ◌++◌, Option, Some, None, length, map, take, slice_get, flat_map, refl, sym, ap, ◌∙◌, append-nil, append_assoc, zero-add, length-append}
 use Rattle.std.proofs.lemmas.List.{take_more}
 use Rattle.std.proofs.lemmas.List.Concat.{flat_map-append}
 use Rattle.std.proofs.lemmas.List.FromFn.{map-range_with_len_more, length-map-range_with_len}
