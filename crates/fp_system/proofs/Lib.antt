@@ -1,3 +1,4 @@
+mod BuildLemmas
 mod JavaCellLemmas
 mod MakeLemmas
 mod RowLemmas

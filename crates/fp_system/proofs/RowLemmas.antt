@@ -1,10 +1,10 @@
 -- What the equations of classes do.
-use Rattle.std.proofs.Common.{◌≡◌, ◌==◌, ◌<◌, ◌≤◌, ℕ, Bool, true, false, IsTrue, List, [], ◌∷◌, ◌++◌, Contains, Option, Some, None, cond, length, slice_get, bit_and, refl, sym, ap, subst, ◌∙◌, arith}
+use Rattle.std.proofs.Common.{◌≡◌, ◌==◌, ◌<◌, ◌≤◌, ℕ, false, IsTrue, List, [], ◌∷◌, ◌++◌, Contains, Option, Some, None, cond, length, slice_get, bit_and, refl, sym, ap, subst, ◌∙◌, arith}
 use Rattle.std.specs.Option.{option_map_or}
 use Rattle.fp_model.specs.ClassSet.{is_number}
 use Rattle.fp_eqs.specs.Answers.{asked}
 use Rattle.fp_eqs.specs.Equations.{IsEvaluated, Task}
-use Rattle.fp_eqs.specs.Makers.{is_maker, rank, IsMakerAt, IsMakerOf}
+use Rattle.fp_eqs.specs.Makers.{is_maker, rank, IsMakerAt}
 use Rattle.fp_eqs.specs.Tests.{same-place, place-here, false-if_not, left}
 use Rattle.fp_eqs.specs.Counts.{count_below-none, count-listed}
 use Rattle.fp_eqs.proofs.Told.{or-false, contains-here, one-given}

@@ -18,7 +18,7 @@ use Rattle.fp_cells.specs.Entities.{IsEntityOf, kind_text, entity_text}
 use Rattle.fp_model.specs.declared.class.Class.{Class}
 use Rattle.fp_model.specs.ClassSet.{fields_of}
 use Rattle.fp_cells.specs.declared.kind.Entity.TheVariants.{Class as OfClass, Field as OfField}
-use Rattle.fp_system.specs.Java.{class_cells, field_cells, java_cells, is_concrete, is_no_interface, has_text, is_shown, shown_flags, shown_from, shows}
+use Rattle.fp_system.specs.Java.{class_cells, java_cells, is_concrete, is_no_interface, has_text, is_shown, shown_flags, shown_from, shows}
 use Rattle.fp_system.specs.Shows.{AreEntitiesOf, HasFound, KnowsParts, cell_text, is_marked, marked_flags, marked_from}
 use Rattle.fp_system.specs.Texts.{part_before}
 use Rattle.fp_system.proofs.JavaCellLemmas.{false-if_not, or-both}

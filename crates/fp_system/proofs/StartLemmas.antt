@@ -1,14 +1,14 @@
 -- The words that places start with, cell after cell.
-use Rattle.std.proofs.Common.{◌≡◌, ℕ, ◌+◌, ◌-◌, ◌*◌, ◌<◌, Bool, cond, List, [], ◌∷◌, ◌++◌, Option, Some, None, length, map, take, get_or, slice_get, flat_map, refl, sym, ap, ◌∙◌, append-nil, append_assoc, zero-add}
+use Rattle.std.proofs.Common.{◌≡◌, ℕ, ◌+◌, ◌-◌, ◌*◌, Bool, cond, List, [], ◌∷◌, ◌++◌, Option, Some, None, length, map, take, slice_get, flat_map, refl, sym, ap, ◌∙◌, append-nil, append_assoc, zero-add, length-append}
 use Rattle.std.proofs.lemmas.List.{take_more}
 use Rattle.std.proofs.lemmas.List.Concat.{flat_map-append}
-use Rattle.std.proofs.lemmas.List.FromFn.{map-range_with_len_more}
+use Rattle.std.proofs.lemmas.List.FromFn.{map-range_with_len_more, length-map-range_with_len}
 use Rattle.std.proofs.lemmas.Option.{slice_get_within, get_or_from_slice_get}
 use Rattle.std.specs.List.{range_with_len}
 use Rattle.std.specs.Option.{option_map}
 use Rattle.fp_cells.specs.declared.kind.KindId.{KindId}
 use Rattle.fp_cells.specs.declared.kind.Entity.{Entity}
-use Rattle.fp_cells.specs.Cells.{Cell, places_of}
+use Rattle.fp_cells.specs.Cells.{Cell, places_of, total_places}
 use Rattle.fp_system.specs.Java.{analysis_of, fixed_words, full_word, has_text}
 use Rattle.fp_system.specs.Starts.{start_words, words_of}
 
@@ -57,3 +57,11 @@ start_words-step selects cells i told selected now later here picks is added =
     ∙ ap (λ b. start_words selects (take i cells) ++ words_of b told.2) (picks ∙ ap (λ k. selects (analysis_of k)) (sym r.kind))
     ∙ ap (λ n. start_words selects (take i cells) ++ words_of (selects (analysis_of r.cell.kind)) n) (sym r.bits)
     ∙ sym (start_words-more selects cells i r.cell r.at)
+
+-- a word for each place
+pub length-start_words : (selects : List ℕ → Bool) (cells : List Cell) → length (start_words selects cells) ≡ total_places cells
+length-start_words selects [] = refl
+length-start_words selects (c ∷ cells) =
+    let own : length (words_of (selects (analysis_of c.kind)) c.bits) ≡ places_of c.bits = length-map-range_with_len (λ i. cond (selects (analysis_of c.kind)) 0 (full_word (c.bits - 64 * i))) 0 (places_of c.bits) in
+    length-append (words_of (selects (analysis_of c.kind)) c.bits) (start_words selects cells)
+    ∙ ap (λ n. n + length (start_words selects cells)) own ∙ ap (λ n. places_of c.bits + n) (length-start_words selects cells)

@@ -1,5 +1,5 @@
 -- The system of a run over a set of classes: its cells, the equations of the selected analyses, and what is shown.
-use Rattle.std.specs.Prelude.{◌≡◌, ℕ, ◌+◌, ◌-◌, ◌*◌, ◌^◌, ◌==◌, nat_lt, nat_le, Bool, true, false, ◌||◌, not, List, [], ◌∷◌, ◌++◌, length, map, replicate, codes, bit_and, slice_index, Option, Some, None, if◌then◌else◌, string_bytes}
+use Rattle.std.specs.Prelude.{ℕ, ◌+◌, ◌-◌, ◌*◌, ◌^◌, ◌==◌, nat_lt, nat_le, Bool, true, ◌||◌, List, [], ◌∷◌, ◌++◌, length, map, replicate, codes, bit_and, slice_index, Option, Some, None, if◌then◌else◌}
 use Rattle.std.specs.List.{list_any, flat_map, range_with_len}
 use Rattle.std.specs.Option.{option_or, option_map}
 use Rattle.std.specs.Str.{bytes_eq}
@@ -10,7 +10,7 @@ use Rattle.fp_cells.specs.declared.kind.KindId.TheVariants as kind
 use Rattle.fp_cells.specs.declared.kind.Entity.TheVariants as entity
 use Rattle.fp_cells.specs.Cells.{Cell, places_of, total_places}
 use Rattle.fp_cells.specs.Entities.{kind_text, entity_text}
-use Rattle.fp_eqs.specs.Equations.{Equations, Tasks}
+use Rattle.fp_eqs.specs.Equations.{Equations}
 use Rattle.fp_eqs.specs.Solved.{flag_at}
 use Rattle.fp_system.specs.ClassEquations.{class_tasks, declared_tasks}
 use Rattle.fp_system.specs.declared.declared.ClassTask.{ClassTask}

@@ -1,14 +1,14 @@
 -- Why the equations of classes are lawful.
-use Rattle.std.specs.Prelude.{◌≡◌, ◌≢◌, ◌==◌, ◌<◌, ◌≤◌, ◌+◌, ◌^◌, ℕ, Bool, true, false, not, IsTrue, List, [], ◌∷◌, length, slice_get, bit_and, bit_or, Option, Some, None, if◌then◌else◌, refl}
+use Rattle.std.specs.Prelude.{◌≡◌, ◌≢◌, ◌==◌, ◌<◌, ◌≤◌, ◌^◌, ℕ, Bool, true, false, not, IsTrue, List, [], ◌∷◌, length, slice_get, bit_and, bit_or, Option, Some, None, if◌then◌else◌, refl}
 use Rattle.std.specs.Option.{option_map_or}
 use Rattle.std.proofs.Common.{arith, ap, subst, sym, zero, suc}
 use Rattle.std.proofs.lemmas.Bool.{not-true}
 use Rattle.std.proofs.lemmas.Nat.{and_le_r}
 use Rattle.std.proofs.lemmas.Nat.Bits.{bit_at_or, bit_at_and, same_from_bits}
 use Rattle.std.specs.Int.{bit_at}
-use Rattle.fp_bits.specs.Words.{IsWithin, within-refl, within-if, zero-within}
+use Rattle.fp_bits.specs.Words.{IsWithin, within-refl, within-if}
 use Rattle.fp_model.specs.ClassSet.{is_number}
-use Rattle.fp_eqs.specs.Equations.{AllLawful, IsBelow, IsLawful, IsWords, count_below}
+use Rattle.fp_eqs.specs.Equations.{AllLawful, IsBelow, IsLawful, count_below}
 use Rattle.fp_eqs.specs.Tests.{same-place, place-here, left}
 use Rattle.fp_eqs.specs.Counts.{count_below-none, count-listed}
 use Rattle.fp_system.specs.declared.declared.ClassTask.{ClassTask}

@@ -1,11 +1,12 @@
 -- Which cells a table of shown items shows.
-use Rattle.std.specs.Prelude.{◌≡◌, ℕ, ◌+◌, Bool, true, false, ◌||◌, List, [], ◌∷◌, ◌++◌, replicate, if◌then◌else◌, ⊤}
+use Rattle.std.specs.Prelude.{◌≡◌, ℕ, ◌+◌, Bool, true, ◌||◌, List, [], ◌∷◌, ◌++◌, replicate, if◌then◌else◌, ⊤}
 use Rattle.std.specs.List.{flat_map, list_any}
 use Rattle.std.specs.Str.{bytes_eq}
 use Rattle.fp_base.specs.Names.{has_name}
 use Rattle.fp_model.specs.ClassSet.{SetView}
 use Rattle.fp_cells.specs.Cells.{Cell, places_of}
 use Rattle.fp_cells.specs.Entities.{IsEntityOf, kind_text, entity_text}
+use Rattle.fp_system.specs.Java.{first_failing, is_item, is_kind_text}
 use Rattle.fp_system.specs.Texts.{part_before}
 
 -- the text that names a cell: `kind=entity`
@@ -33,6 +34,10 @@ KnowsParts items parts = (text : List ℕ) → has_name items text ≡ true → 
 -- the items that name one of the cells have been noted
 abbrev pub HasFound : SetView → List (List ℕ) → List (List ℕ) → List Cell → Type 0
 HasFound set items found cells = (text : List ℕ) → has_name items text ≡ true → has_name found text ≡ list_any (λ cell. bytes_eq text (cell_text set cell)) cells
+
+-- an item that is neither a kind nor noted is one that names nothing
+abbrev pub FindsItems : SetView → List (List ℕ) → List (List ℕ) → Type 0
+FindsItems set show found = first_failing (λ item. is_kind_text item || has_name found item) show ≡ first_failing (is_item set) show
 
 -- each cell is of an entity of the set
 abbrev pub AreEntitiesOf : SetView → List Cell → Type 0

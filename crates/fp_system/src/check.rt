@@ -1,20 +1,61 @@
-//! Which words name nothing.
+//! Which words and sets are refused.
 ghost use Rattle.std.specs.Prelude.{◌≡◌, ◌||◌, Some, None, is_some, string_bytes, IfErr, OnOk};
 ghost use Rattle.fp_base.specs.Files.{texts};
 ghost use Rattle.fp_base.specs.Names.{has_name};
-ghost use Rattle.fp_system.specs.Faults.{TellsAnalysis, TellsItem};
-ghost use Rattle.fp_system.specs.Java.{first_failing, is_analysis, is_kind_text};
+ghost use Rattle.fp_cells.specs.Cells.{total_places};
+ghost use Rattle.fp_system.specs.Faults.{TellsAnalysis, TellsItem, TellsLimit, TellsSystemRefusal};
+ghost use Rattle.fp_system.specs.Java.{first_failing, is_analysis, is_kind_text, java_cells, places_refusal, system_refusal};
+ghost use Rattle.fp_system.specs.Shows.{FindsItems};
 
 use crate::fault::SystemFault;
+use crate::limits::check_limits;
 use fp_base::Names;
-use fp_cells::{KindId, kind_text};
+use fp_cells::{Cells, KindId, kind_text};
+use fp_model::ClassSet;
 use std::alloc::Global;
 
 /// The analyses that there are.
 const DECLARED: &[u8] = b"declared";
 
-/// Refuses the first name that is no analysis.
-pub fn check_analyses(names: &[String]) -> Result<(), SystemFault>
+/// Refuses the first of: an analysis that there isn't, a shown item that is neither a kind nor a cell, more places than a system may
+/// have.
+pub fn check_words(
+    set: &ClassSet,
+    analyses: &[String],
+    show: &[String],
+    cells: &Cells,
+    found: &Names,
+) -> Result<(), SystemFault>
+    requires cells { cells.now ≡ java_cells set.now.classes }
+    requires found { FindsItems set.now (texts show.now) found.now }
+    ensures accepted { OnOk result (system_refusal set.now (texts analyses.now) (texts show.now) ≡ None) }
+    ensures refused { IfErr result (TellsSystemRefusal (system_refusal set.now (texts analyses.now) (texts show.now))) }
+{
+    if let Err(fault) = check_analyses(analyses) {
+        return Err(fault);
+    }
+    if let Err(fault) = check_items(show, found) {
+        return Err(fault);
+    }
+    if let Err(fault) = check_places(cells) {
+        return Err(fault);
+    }
+    Ok(())
+}
+
+// There are at most as many uses, and as many gives, as there are places: these can't pass their bounds where the places don't.
+fn check_places(cells: &Cells) -> Result<(), SystemFault>
+    ensures accepted { OnOk result (places_refusal (total_places cells.now) ≡ None) }
+    ensures refused { IfErr result (TellsLimit (places_refusal (total_places cells.now))) }
+{
+    match check_limits(u64::from(cells.places()), 0, 0) {
+        Ok(()) => Ok(()),
+        Err((name, bound)) => Err(SystemFault::Limit(name, bound)),
+    }
+}
+
+// Refuses the first name that is no analysis.
+fn check_analyses(names: &[String]) -> Result<(), SystemFault>
     ensures accepted { OnOk result (first_failing is_analysis (texts names.now) ≡ None) }
     ensures refused { IfErr result (TellsAnalysis (first_failing is_analysis (texts names.now))) }
 {
@@ -35,8 +76,8 @@ fn unknown_analysis(name: &String) -> SystemFault
     }
 }
 
-/// Refuses the first item that is neither a kind nor among those that were found.
-pub fn check_items(items: &[String], found: &Names) -> Result<(), SystemFault>
+// Refuses the first item that is neither a kind nor among those that were found.
+fn check_items(items: &[String], found: &Names) -> Result<(), SystemFault>
     ensures accepted { OnOk result (first_failing (λ item. is_kind_text item || has_name found.now item) (texts items.now) ≡ None) }
     ensures refused { IfErr result (TellsItem (first_failing (λ item. is_kind_text item || has_name found.now item) (texts items.now))) }
 {

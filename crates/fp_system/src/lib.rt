@@ -11,6 +11,7 @@ mod fixed;
 mod limits;
 mod rows;
 mod shown;
+mod start;
 mod system;
 mod texts;
 

@@ -1,9 +1,12 @@
 //! Which cells are shown, and which items name a cell.
-ghost use Rattle.std.specs.Prelude.{◌≡◌, ℕ, ◌+◌, ◌<◌, ◌++◌, ◌∷◌, ◌||◌, [], List, true, if◌then◌else◌, IfOk, OnOk};
+ghost use Rattle.std.specs.Prelude.{◌≡◌, ℕ, ◌+◌, ◌<◌, ◌++◌, ◌∷◌, ◌||◌, [], List, length, true, if◌then◌else◌, IfOk, OnOk};
 ghost use Rattle.std.specs.Str.{bytes_eq};
 ghost use Rattle.fp_base.specs.Names.{has_name};
 ghost use Rattle.fp_cells.specs.Entities.{IsEntityOf};
-ghost use Rattle.fp_system.specs.Shows.{AreEntitiesOf, HasFound, KnowsParts, cell_text, is_marked, marked_flags, marked_from};
+ghost use Rattle.fp_base.specs.Files.{texts};
+ghost use Rattle.fp_cells.specs.Cells.{total_places};
+ghost use Rattle.fp_system.specs.Java.{java_cells, shown_flags, shown_from};
+ghost use Rattle.fp_system.specs.Shows.{AreEntitiesOf, FindsItems, HasFound, KnowsParts, cell_text, is_marked, marked_flags, marked_from};
 
 use crate::cells::count_places;
 use crate::texts::{add_text, index_first_parts, index_texts};
@@ -49,8 +52,25 @@ pub struct Shown {
     pub found: Names,
 }
 
-/// Walks over the cells once, and looks up each by its kind and by its text.
-pub fn find_shown(
+/// What the items show of the cells of a set.
+pub fn show_cells(
+    alloc: Global,
+    set: &ClassSet,
+    cells: &Cells,
+    show: &[String],
+) -> Result<Shown, AllocError>
+    requires { cells.now ≡ java_cells set.now.classes }
+    ensures flags { IfOk result (λ s. s.flags.items ≡ shown_flags set.now (texts show.now) (java_cells set.now.classes)) }
+    ensures cells { IfOk result (λ s. s.cells.items ≡ shown_from set.now (texts show.now) 0 (java_cells set.now.classes)) }
+    ensures found { IfOk result (λ s. FindsItems set.now (texts show.now) s.found) }
+    ensures long { IfOk result (λ s. length s.flags.items ≡ total_places cells.now) }
+{
+    let items = ShownItems::index(alloc, show)?;
+    find_shown(alloc, set, cells, &items)
+}
+
+// Walks over the cells once, and looks up each by its kind and by its text.
+fn find_shown(
     alloc: Global,
     set: &ClassSet,
     cells: &Cells,

@@ -1,5 +1,5 @@
 //! The system of a run.
-ghost use Rattle.std.specs.Prelude.{◌≡◌, ◌<◌, ◌^◌, length, slice_index};
+ghost use Rattle.std.specs.Prelude.{◌≡◌, ◌<◌, ◌^◌, [], length, slice_index};
 ghost use Rattle.fp_eqs.specs.Equations.{IsWords};
 
 use crate::declared::DeclaredTasks;
@@ -22,11 +22,12 @@ pub struct JavaSystem {
     ghost same_places: { declared.places ≡ length fixed },
     ghost few: { length fixed < 2 ^ 32 },
     ghost long: { length shown ≡ length fixed },
+    ghost untargeted: { targets.items ≡ [] },
     ghost words: { IsWords (slice_index fixed) },
 }
 
 impl JavaSystem {
-    ghost use Rattle.std.specs.Prelude.{◌≡◌, ◌<◌, ◌^◌, length};
+    ghost use Rattle.std.specs.Prelude.{◌≡◌, ◌<◌, ◌^◌, [], length};
     ghost use Rattle.fp_system.specs.Java.{equations_of};
     ghost use Rattle.fp_system.specs.Systems.{system_cells, system_equations, system_shown_cells};
 
@@ -65,7 +66,9 @@ impl JavaSystem {
     }
 
     /// The targets of each call site whose targets are known, in the order of their bits: none so far.
-    pub fn targets(&self) -> &[(SiteId, Items<MethodId>)] {
+    pub fn targets(&self) -> &[(SiteId, Items<MethodId>)]
+        ensures { result.now ≡ [] }
+    {
         self.targets.as_slice()
     }
 

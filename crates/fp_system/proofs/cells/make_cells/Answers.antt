@@ -1,4 +1,4 @@
-use Rattle.std.proofs.Common.{◌≡◌, true, false, [], ◌++◌, refl, ap, ◌∙◌}
+use Rattle.std.proofs.Common.{◌≡◌, true, false, ◌++◌, refl, ap, ◌∙◌}
 use Rattle.fp_cells.specs.declared.kind.KindId.TheVariants.{Declared, Inst, Assign, Immut, Timmut}
 use Rattle.fp_system.specs.Java.{class_cells, field_cells, is_concrete, is_no_interface, lacks}
 use Rattle.fp_system.specs.Kinds.{has_kind}

@@ -1,4 +1,4 @@
-use Rattle.std.proofs.Common.{◌≡◌, ◌∷◌, [], ◌++◌, ◌∙◌, ap, sym, ℕ, List, Some}
+use Rattle.std.proofs.Common.{◌≡◌, ◌∷◌, [], ◌++◌, ◌∙◌, ap, sym, ℕ, List}
 use Rattle.fp_eqs.specs.Answers.{told}
 use Rattle.fp_system.proofs.RowLemmas.{row_evaluated}
 use Rattle.fp_system.proofs.evaluate.evaluate.Goals as goal
