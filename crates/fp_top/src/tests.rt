@@ -303,10 +303,12 @@ fn three_classes(alloc: Global) -> Result<ClassSet, Fail> {
 fn the_lines_of_classes_stand_in_the_order_of_their_bytes(rt: HostRuntime) -> Result<(), Fail> {
     let alloc = rt.alloc();
     let words = texts(alloc, &showing("declared", "immut=B,declared,inst=b/C"))?;
-    let job = job_of(alloc, &words).ok().ok_or("no job")?;
-    let run = solve(alloc, three_classes(alloc)?, job)
-        .ok()
-        .ok_or("no run")?;
+    let Ok(job) = job_of(alloc, &words) else {
+        return Err("no job".into());
+    };
+    let Ok(run) = solve(alloc, three_classes(alloc)?, job) else {
+        return Err("no run".into());
+    };
     let mut out = MemSink::new(alloc, Vec::new(alloc));
     assert_eq!(rt; put_report(alloc, run, &mut out), Ok(()));
     let wanted =
