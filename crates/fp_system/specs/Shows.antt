@@ -35,7 +35,7 @@ KnowsParts items parts = (text : List ℕ) → has_name items text ≡ true → 
 abbrev pub HasFound : SetView → List (List ℕ) → List (List ℕ) → List Cell → Type 0
 HasFound set items found cells = (text : List ℕ) → has_name items text ≡ true → has_name found text ≡ list_any (λ cell. bytes_eq text (cell_text set cell)) cells
 
--- an item that is neither a kind nor noted is one that names nothing
+-- the first item that is neither a kind nor noted is the first that names nothing
 abbrev pub FindsItems : SetView → List (List ℕ) → List (List ℕ) → Type 0
 FindsItems set show found = first_failing (λ item. is_kind_text item || has_name found item) show ≡ first_failing (is_item set) show
 

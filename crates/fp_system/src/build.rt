@@ -18,17 +18,16 @@ use fp_model::ClassSet;
 use fp_words::Job;
 use std::alloc::{AllocError, Global};
 
-/// A system whose words are not checked yet.
+// A system whose words are not checked yet.
 #[derive(Drop)]
-pub struct Unchecked {
-    /// The system.
-    pub system: JavaSystem,
-    /// The shown items that name a cell.
-    pub found: Names,
+struct Unchecked {
+    system: JavaSystem,
+    // The shown items that name a cell.
+    found: Names,
 }
 
-/// Makes the system of a set for the words of a run, whatever these are.
-pub fn make_system(
+// Makes the system of a set for the words of a run, whatever these are.
+fn make_system(
     alloc: Global,
     set: &ClassSet,
     analyses: &[String],
@@ -50,8 +49,8 @@ pub fn make_system(
     Ok(Unchecked { system, found })
 }
 
-/// The system, unless the words are refused.
-pub fn check_system(
+// The system, unless the words are refused.
+fn check_system(
     set: &ClassSet,
     analyses: &[String],
     show: &[String],

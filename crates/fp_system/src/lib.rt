@@ -13,6 +13,8 @@ mod rows;
 mod shown;
 mod start;
 mod system;
+#[cfg(test)]
+mod tests;
 mod texts;
 
 pub use declared::{ClassTask, DeclaredTasks};
