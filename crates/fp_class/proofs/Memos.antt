@@ -15,10 +15,11 @@ use Rattle.fp_model.specs.Descriptor.{kind_names, IsKindOf}
 use Rattle.fp_model.specs.Thin.{text_at, class_name_at}
 use Rattle.fp_model.proofs.LongerTables.{Keeps, IsKindOf-kept}
 use Rattle.fp_class.specs.declared.memo.Memo.{Memo}
-use Rattle.fp_class.specs.Interning.{Interned, IsClassName}
+use Rattle.fp_model.specs.Interning.{Interned}
+use Rattle.fp_class.specs.Interning.{IsClassName}
 use Rattle.fp_class.specs.Memos.{known_at, IsTextNumber, IsTextKind, IsMemo}
 use Rattle.fp_class.proofs.Numberings.{text_within}
-use Rattle.fp_class.proofs.Tables.{interned_ok}
+use Rattle.fp_model.proofs.Interned.{interned_ok}
 
 -- ---- lists of what is known
 

@@ -18,7 +18,7 @@ use Rattle.fp_model.specs.Descriptor.{is_field_descriptor, IsBadAt, IsKindOf}
 use Rattle.fp_model.specs.Thin.{text_in, text_at, class_name_at, is_thin_entry, is_thin_pool, is_sound_field}
 use Rattle.fp_model.proofs.LongerTables.{Keeps, IsKindOf-kept}
 use Rattle.fp_class.proofs.Repeating.{texts_of}
-use Rattle.fp_class.proofs.Tables.{Keeps-then}
+use Rattle.fp_model.proofs.Interned.{Keeps-then}
 use Rattle.fp_class.specs.Interning.{IsClassName, IsParentName, IsNamedField}
 
 -- ---- lists place by place

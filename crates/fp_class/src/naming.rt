@@ -6,7 +6,8 @@ ghost use Rattle.fp_base.specs.Names.{with_names};
 ghost use Rattle.fp_model.specs.Classes.{field_names, raw_names, IsClassOf};
 ghost use Rattle.fp_model.specs.Descriptor.{is_field_descriptor, kind_names, IsKindOf, LacksRoom};
 ghost use Rattle.fp_model.specs.Thin.{passes, class_name_at, is_class_index, is_sound_field, is_thin_pool, text_at, IsThin};
-ghost use Rattle.fp_class.specs.Interning.{HasNoRoom, Interned, IsClassName, IsNamedField, IsParentName};
+ghost use Rattle.fp_model.specs.Interning.{HasNoRoom, Interned};
+ghost use Rattle.fp_class.specs.Interning.{IsClassName, IsNamedField, IsParentName};
 ghost use Rattle.fp_class.specs.Memos.{IsMemo};
 
 use crate::entries;

@@ -1,12 +1,12 @@
 -- What the steps of a run say together.
-use Rattle.std.proofs.Common.{◌≡◌, ℕ, ◌≤◌, length, Result, Ok, Err, Bool, true, false, List, [], ◌∷◌, ◌++◌, Option, Some, None, refl, sym, ap, subst, ◌∙◌, inl, inr, append_assoc, lit<}
-use Rattle.std.specs.Prelude.{filter, Contains, IsSome, IsTrue, IfOk, IfErr, nat_lt, unwrap_or, string_bytes, if◌then◌else◌}
+use Rattle.std.proofs.Common.{◌≡◌, ℕ, ◌≤◌, length, Result, Ok, Err, Bool, true, false, List, [], ◌∷◌, ◌++◌, Option, Some, refl, sym, ap, subst, ◌∙◌, inr, append_assoc, lit<}
+use Rattle.std.specs.Prelude.{filter, IsSome, IsTrue, IfOk, IfErr, nat_lt, unwrap_or, string_bytes, if◌then◌else◌}
 use Rattle.std.proofs.lemmas.Bool.{cond-false, le-ltb}
 use Rattle.std.specs.Str.{bytes_eq}
 use Rattle.std.specs.Cmp.Lexicographic.{bytes_decides}
 use Rattle.std.proofs.lemmas.List.Elements.{Contains-append_right}
 use Rattle.fp_base.specs.Calls.{Call, Grows, Gained}
-use Rattle.fp_base.specs.Calls.Call.{Listing, Reading}
+use Rattle.fp_base.specs.Calls.Call.{Reading}
 use Rattle.fp_base.specs.Files.{File, bytes_at, paths_of, class_paths, is_class_file}
 use Rattle.fp_top.specs.declared.refusal.Refusal.{Refusal}
 use Rattle.fp_top.specs.declared.refusal.Refusal.TheVariants as refusal

@@ -1,5 +1,5 @@
 -- What a listing and a reading say of the told files.
-use Rattle.std.proofs.Common.{◌≡◌, ◌≢◌, ℕ, ◌+◌, ◌<◌, ◌≤◌, nat_lt, Bool, true, false, List, [], ◌∷◌, length, take, Option, Some, None, Result, Ok, Err, IsTrue, refl, sym, ap, subst, ◌∙◌, arith, length-take}
+use Rattle.std.proofs.Common.{◌≡◌, ◌≢◌, ℕ, ◌+◌, ◌<◌, ◌≤◌, nat_lt, Bool, true, List, [], ◌∷◌, length, take, Option, Some, None, Result, Ok, Err, IsTrue, refl, sym, ap, subst, ◌∙◌, arith, length-take}
 use Rattle.std.specs.Prelude.{String, string_bytes, unwrap_or, All, IfOk, IfErr, IsPermutation}
 use Rattle.std.specs.declared.alloc.Global.{Global}
 use Rattle.std.specs.Option.{option_map}
@@ -8,11 +8,11 @@ use Rattle.std.proofs.lemmas.List.Sorted.{length_permutation, All-permutation}
 use Rattle.std.proofs.lemmas.List.Elements.{All-head, All-cons, All-from_recursion}
 use Rattle.std.proofs.lemmas.List.{take_all}
 use Rattle.std.proofs.lemmas.Bool.{lt-ltb}
-use Rattle.fp_base.specs.Files.{File, bytes_at, first_bytes, texts, is_class_file}
+use Rattle.fp_base.specs.Files.{File, first_bytes, texts, is_class_file}
 use Rattle.fp_words.specs.Words.{RunAsked}
 use Rattle.fp_top.specs.declared.refusal.Refusal.{Refusal}
 use Rattle.fp_top.specs.declared.refusal.Refusal.TheVariants as refusal
-use Rattle.fp_top.specs.Outcome.{outcome_of_paths, outcome_of_bytes, unbuilt_text}
+use Rattle.fp_top.specs.Outcome.{outcome_of_paths, outcome_of_bytes}
 use Rattle.fp_top.specs.Refusal.{Says, IsUnbuilt}
 
 -- an order of one element is that element

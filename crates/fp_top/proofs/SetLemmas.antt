@@ -1,5 +1,5 @@
 -- The one class of a file as a set.
-use Rattle.std.proofs.Common.{◌≡◌, ℕ, ◌+◌, ◌-◌, ◌*◌, ◌<◌, ◌≤◌, ◌^◌, ◌==◌, Bool, true, false, ◌&&◌, List, [], ◌∷◌, ◌++◌, length, take, drop, Option, Some, None, Result, Ok, Err, IsTrue, refl, sym, ap, subst, ◌∙◌, length-append, arith}
+use Rattle.std.proofs.Common.{◌≡◌, ℕ, ◌+◌, ◌-◌, ◌*◌, ◌<◌, ◌≤◌, ◌==◌, Bool, true, false, ◌&&◌, List, [], ◌∷◌, ◌++◌, length, take, drop, Option, Some, None, Result, Ok, Err, IsTrue, refl, sym, ap, subst, ◌∙◌, length-append, arith}
 use Rattle.std.specs.Prelude.{unwrap_or, IfOk, IfErr, OnOk, if◌then◌else◌}
 use Rattle.std.specs.List.{flat_map, list_all, AllZip}
 use Rattle.std.specs.Option.{option_to_list}
@@ -11,7 +11,7 @@ use Rattle.fp_model.specs.declared.raw.Raw.{Raw}
 use Rattle.fp_model.specs.declared.raw.RawMember.{RawMember}
 use Rattle.fp_model.specs.declared.raw.pool.Entry.{Entry}
 use Rattle.fp_model.specs.Descriptor.{dimensions, element_names}
-use Rattle.fp_model.specs.Thin.{text_at, class_name_at, has_thin_form, is_u2, is_thin_pool, is_bare}
+use Rattle.fp_model.specs.Thin.{text_at, class_name_at, has_thin_form, is_u2, is_thin_pool}
 use Rattle.fp_model.specs.Classes.{IsClassOf, IsFieldOf, class_in, raw_names, field_names}
 use Rattle.fp_model.specs.ClassSet.{SetView, AreFew, refusal_of}
 use Rattle.fp_model.proofs.OneClass.{one_class}

@@ -1,6 +1,6 @@
 -- The system of a set, what its report may be made of, and what its solution says.
-use Rattle.std.proofs.Common.{◌≡◌, ◌≢◌, ℕ, zero, suc, ◌+◌, ◌<◌, ◌≤◌, ◌==◌, Bool, true, false, cond, List, [], ◌∷◌, ◌++◌, length, map, All, Option, Some, None, inl, inr, ⊎_elim, slice_index, refl, sym, ap, ap₂, subst, ◌∙◌, length-append, arith, add-one}
-use Rattle.std.specs.List.{flat_map, range_with_len}
+use Rattle.std.proofs.Common.{◌≡◌, ◌≢◌, ℕ, zero, suc, ◌+◌, ◌<◌, ◌≤◌, ◌==◌, Bool, true, List, [], ◌∷◌, ◌++◌, length, map, All, Some, None, ⊎_elim, slice_index, refl, sym, ap, ap₂, subst, ◌∙◌, length-append, arith}
+use Rattle.std.specs.List.{range_with_len}
 use Rattle.std.proofs.lemmas.Bool.{cases_Bool, cond_both, cond-true, cond-false, eq-eqb}
 use Rattle.std.proofs.lemmas.List.Elements.{All-nil, All-cons, All-append, All-weaker}
 use Rattle.std.proofs.lemmas.List.FromFn.{length-map-range_with_len}
@@ -16,11 +16,10 @@ use Rattle.fp_eqs.specs.Equations.{Equations}
 use Rattle.fp_eqs.specs.Solution.{solution}
 use Rattle.fp_eqs.specs.Demand.{demand}
 use Rattle.fp_eqs.specs.Solved.{IsSolved, flag_at}
-use Rattle.fp_system.specs.Java.{class_cells, field_cells, fixed_of, fixed_words, is_concrete, is_no_interface, is_shown, java_cells, java_equations, shown_from}
+use Rattle.fp_system.specs.Java.{class_cells, fixed_of, fixed_words, is_concrete, is_no_interface, is_shown, java_cells, java_equations, shown_from}
 use Rattle.fp_report.specs.Report.{report, IsCellOf, IsReportable}
 use Rattle.fp_words.specs.Words.{RunAsked}
-use Rattle.fp_top.specs.Outcome.{Outcome, java_report, outcome_by, outcome_of_sound}
-use Rattle.fp_top.specs.Outcome.Outcome.{Report}
+use Rattle.fp_top.specs.Outcome.{java_report}
 
 -- ---- cells
 

@@ -1,12 +1,11 @@
 -- What a refusal says of the status and of the text of a run.
-use Rattle.std.proofs.Common.{◌≡◌, ◌≢◌, ◌⊎◌, ℕ, Bool, List, [], ◌∷◌, ◌++◌, length, Option, Some, None, Result, Ok, Err, IsTrue, refl, sym, ap, ◌∙◌, inl, inr, length-append, arith}
+use Rattle.std.proofs.Common.{◌≡◌, ◌≢◌, ◌⊎◌, ℕ, Bool, List, length, Option, Some, None, Result, Ok, Err, IsTrue, refl, sym, ap, ◌∙◌, inl, inr, length-append, arith}
 use Rattle.std.specs.Prelude.{IsNone, OnErr, OnOk, string_bytes}
 use Rattle.std.specs.Io.KnownBytes.{append_known}
 use Rattle.fp_base.specs.declared.outside.sink.SinkFault.{SinkFault}
 use Rattle.fp_base.proofs.SinkLemmas.{part-all}
 use Rattle.fp_base.specs.Files.{File}
 use Rattle.fp_base.specs.Calls.{Call, Gained}
-use Rattle.fp_top.specs.declared.status.Status.{Status}
 use Rattle.fp_top.specs.declared.status.Status.TheVariants as status
 use Rattle.fp_top.specs.declared.refusal.Refusal.{Refusal}
 use Rattle.fp_top.specs.declared.refusal.Refusal.TheVariants as refusal

@@ -4,7 +4,7 @@ use Rattle.std.specs.Prelude.{option_map, option_and_then}
 use Rattle.std.specs.List.{list_all}
 use Rattle.std.proofs.lemmas.Option.{none-some, same_Some}
 use Rattle.std.proofs.lemmas.Bool.{cond-false, le-ltb}
-use Rattle.fp_words.specs.Words.{Asked, Given, RunAsked, asked, is_plain, none_given, one_worker, options_of, order_of, run_of, run_with, run_asked}
+use Rattle.fp_words.specs.Words.{Given, RunAsked, asked, is_plain, none_given, one_worker, options_of, order_of, run_of, run_with, run_asked}
 use Rattle.fp_words.specs.Lists.{list_items}
 use Rattle.fp_top.specs.Words.{asked_of}
 use Rattle.fp_words.specs.Words.Asked.{Run, Generate}

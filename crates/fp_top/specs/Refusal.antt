@@ -1,5 +1,5 @@
 -- Refusals of the code, and what they say of the outcome.
-use Rattle.std.specs.Prelude.{◌≡◌, ◌⊎◌, ℕ, Bool, true, List, [], ◌∷◌, ◌++◌, Contains, IsTrue, Option, Some, None, string_bytes}
+use Rattle.std.specs.Prelude.{◌≡◌, ◌⊎◌, ℕ, Bool, true, List, Contains, Option, Some, None, string_bytes}
 use Rattle.fp_base.specs.Calls.{Call, Gained, Grows}
 use Rattle.fp_base.specs.Calls.Call.{Listing, Reading}
 use Rattle.fp_base.specs.Files.{File, is_class_file}

@@ -1,5 +1,5 @@
 -- What the top call promises of its status and of what it leaves.
-use Rattle.std.specs.Prelude.{◌≡◌, ◌≢◌, ◌⊎◌, ℕ, Bool, List, [], Option, Some, IsTrue}
+use Rattle.std.specs.Prelude.{◌≡◌, ℕ, Bool, List, [], Option, Some, IsTrue}
 use Rattle.fp_base.specs.Files.{File}
 use Rattle.fp_base.specs.Calls.{Call}
 use Rattle.fp_base.specs.Faults.{AppendsPart}

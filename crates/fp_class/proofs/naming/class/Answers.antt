@@ -5,10 +5,10 @@ use Rattle.std.specs.Option.{option_to_list}
 use Rattle.fp_model.specs.Classes.{field_names}
 use Rattle.fp_model.specs.Descriptor.{is_array_like}
 use Rattle.fp_model.specs.Thin.{class_name_at}
-use Rattle.fp_class.specs.Interning.{Interned}
+use Rattle.fp_model.specs.Interning.{Interned}
 use Rattle.fp_class.proofs.Conditions.{sound_of, passes-is_some}
 use Rattle.fp_class.proofs.NamedParts.{class_over, texts_whole}
-use Rattle.fp_class.proofs.Tables.{after_one, after_two, after_three, all_four, kept_by}
+use Rattle.fp_model.proofs.Interned.{after_one, after_two, after_three, all_four, kept_by}
 use Rattle.fp_class.proofs.naming.class.Goals as goal
 
 pub class_name-requires-clause-there : goal.class_name-requires-clause-there

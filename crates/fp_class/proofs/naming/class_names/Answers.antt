@@ -6,7 +6,8 @@ use Rattle.std.specs.Option.{option_to_list}
 use Rattle.fp_model.specs.Thin.{class_name_at}
 use Rattle.fp_class.specs.Interning.{IsClassName}
 use Rattle.fp_class.proofs.NamedParts.{AllZip-to, AllZip-more, IsClassName-kept}
-use Rattle.fp_class.proofs.Tables.{all_interned, interned_lost, kept_by, names_more, pushed, one_stops}
+use Rattle.fp_model.proofs.Interned.{interned_lost, kept_by}
+use Rattle.fp_class.proofs.Tables.{all_interned, names_more, pushed, one_stops}
 use Rattle.fp_class.proofs.naming.class_names.Goals as goal
 
 pub returns-in_err-number-clause-names : goal.returns-in_err-number-clause-names

@@ -4,7 +4,7 @@ use Rattle.std.specs.Option.{unwrap_or}
 use Rattle.fp_model.specs.Descriptor.{kind_names}
 use Rattle.fp_model.specs.Thin.{text_at}
 use Rattle.fp_class.proofs.NamedParts.{field_named}
-use Rattle.fp_class.proofs.Tables.{after_one, interned_then, interned_as, kept_by}
+use Rattle.fp_model.proofs.Interned.{after_one, interned_then, interned_as, kept_by}
 use Rattle.fp_class.proofs.naming.field.Goals as goal
 
 pub returns-in_err-descr-clause-names : goal.returns-in_err-descr-clause-names

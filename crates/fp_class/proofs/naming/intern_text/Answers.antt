@@ -1,7 +1,7 @@
 use Rattle.std.proofs.Common.{◌∷◌, [], subst}
 use Rattle.std.specs.Option.{unwrap_or}
-use Rattle.fp_class.specs.Interning.{Interned}
-use Rattle.fp_class.proofs.Tables.{interned_one}
+use Rattle.fp_model.specs.Interning.{Interned}
+use Rattle.fp_model.proofs.Interned.{interned_one}
 use Rattle.fp_class.proofs.naming.intern_text.Goals as goal
 
 pub returns-clause-names : goal.returns-clause-names

@@ -1,7 +1,7 @@
 use Rattle.std.proofs.Common.{Err, ap}
 use Rattle.fp_model.specs.Descriptor.{kind_names}
 use Rattle.fp_class.proofs.NamedParts.{not_bad}
-use Rattle.fp_class.proofs.Tables.{interned_ok}
+use Rattle.fp_model.proofs.Interned.{interned_ok}
 use Rattle.fp_class.proofs.naming.kind.Goals as goal
 
 pub unreachable-requires : goal.unreachable-requires

@@ -1,5 +1,5 @@
-use Rattle.std.proofs.Common.{◌≡◌, ℕ, List, [], ◌∷◌, Some, sym, ap, ◌∙◌}
-use Rattle.std.specs.Prelude.{IsTrue, IsSome, string_bytes}
+use Rattle.std.proofs.Common.{ℕ, List, [], ◌∷◌, Some, sym, ap, ◌∙◌}
+use Rattle.std.specs.Prelude.{IsTrue, string_bytes}
 use Rattle.fp_base.specs.Files.{File, bytes_at, class_paths}
 use Rattle.fp_top.proofs.DecideLemmas.{alone_is_told, blames_reading, says_of_one, set_read, set_refused}
 use Rattle.fp_top.proofs.decide.read_set.Goals as goal

@@ -1,4 +1,4 @@
-use Rattle.std.proofs.Common.{◌≡◌, ◌+◌, ◌≤◌, ap, length, refl, arith}
+use Rattle.std.proofs.Common.{ap, length, refl, arith}
 use Rattle.fp_top.proofs.SetLemmas.{few_names}
 use Rattle.fp_top.proofs.judge.class_of_file.Goals as goal
 

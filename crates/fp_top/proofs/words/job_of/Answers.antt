@@ -1,4 +1,4 @@
-use Rattle.std.proofs.Common.{◌≡◌, ◌∙◌, ◌≤◌, length, Some, Result, Ok, Err, refl, ap, arith}
+use Rattle.std.proofs.Common.{◌≡◌, ◌∙◌, Some, Result, Ok, Err, refl, ap, arith}
 use Rattle.fp_base.specs.Files.{texts}
 use Rattle.fp_words.specs.declared.fault.WordsFault.{WordsFault}
 use Rattle.fp_words.specs.declared.fault.WordsFault.TheVariants as fault
