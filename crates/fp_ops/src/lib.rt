@@ -5,15 +5,18 @@ mod branches;
 mod calls;
 mod constants;
 mod forms;
+mod instr;
 mod jumps;
 mod named;
 mod operands;
 mod plain;
 mod reading;
+mod sites;
 mod switches;
 
 pub use branches::check_targets;
 pub use forms::operands_of;
+pub use instr::to_instr;
 pub use reading::decode;
 
 #[cfg(test)]
