@@ -10,33 +10,32 @@ ghost use Rattle.fp_ops.specs.CallSites.{is_sound_site_at, site_texts_at, IsSite
 ghost use Rattle.fp_ops.specs.Forms.{dims_in, index_in, instr_texts, is_named_op, is_site_op, is_sound_ins, takes_names, IsInstrOf};
 
 use crate::calls::call_at;
-use crate::jumps;
-use crate::named;
 use crate::plain::number_in;
 use crate::sites::site_instr_at;
+use crate::{jumps, named};
 use fp_base::{NameFault, Names};
 use fp_model::{BootRow, Entry, Instr, Pool, RawIns};
 use std::alloc::Global;
 
 /// The opcode of `invokedynamic`.
-const INVOKE_DYNAMIC: u8 = 186;
+pub const INVOKE_DYNAMIC: u8 = 186;
 
 /// Whether an opcode is that of an instruction that takes names and calls nothing.
-fn is_named(op: u8) -> bool
+pub fn is_named(op: u8) -> bool
     ensures { result ≡ is_named_op op }
 {
     matches!(op, 178..=181 | 187 | 189 | 192 | 193 | 197)
 }
 
 /// Whether an opcode is that of a call of a method by its reference.
-fn is_call(op: u8) -> bool
+pub fn is_call(op: u8) -> bool
     ensures { result ≡ is_call_op op }
 {
     matches!(op, 182..=185)
 }
 
 /// The index that the operands begin with.
-fn index_of(ins: &RawIns) -> Option<u16>
+pub fn index_of(ins: &RawIns) -> Option<u16>
     ensures { result ≡ index_in ins.now }
 {
     number_in(ins.args.as_slice())
@@ -104,12 +103,7 @@ fn site_instr(
 }
 
 /// An instruction that takes no name.
-fn plain_instr(
-    alloc: Global,
-    entries: &[Entry],
-    pc: u16,
-    ins: &RawIns,
-) -> Result<Instr, NameFault>
+fn plain_instr(alloc: Global, entries: &[Entry], pc: u16, ins: &RawIns) -> Result<Instr, NameFault>
     requires { is_some (instructions.plain_instr entries.now pc ins.now) ≡ true }
     ensures instr { IfOk result (λ i. instructions.plain_instr entries.now pc ins.now ≡ Some i) }
     ensures memory { IfErr result (λ e. e ≡ NameFault.Memory) }

@@ -12,12 +12,14 @@ mod operands;
 mod plain;
 mod reading;
 mod sites;
+mod soundness;
 mod switches;
 
 pub use branches::check_targets;
 pub use forms::operands_of;
 pub use instr::to_instr;
 pub use reading::decode;
+pub use soundness::has_form;
 
 #[cfg(test)]
 mod tests;

@@ -18,18 +18,18 @@ use std::alloc::Global;
 
 /// A method handle: its kind, and the texts of the member that it refers to.
 #[derive(Clone, Copy)]
-struct Handle<'a> {
-    kind: u8,
-    member: Member<'a>,
+pub struct Handle<'a> {
+    pub kind: u8,
+    pub member: Member<'a>,
 }
 
 /// A call site: the texts of its name and descriptor, its bootstrap method, and the indexes of the static arguments.
 #[derive(Clone, Copy)]
-struct Site<'a> {
-    name: &'a [u8],
-    descr: &'a [u8],
-    method: Handle<'a>,
-    args: &'a [u16],
+pub struct Site<'a> {
+    pub name: &'a [u8],
+    pub descr: &'a [u8],
+    pub method: Handle<'a>,
+    pub args: &'a [u16],
 }
 
 /// A method handle of a kind and the index of its member.
@@ -221,7 +221,7 @@ fn site_of<'a>(entries: &'a [Entry], row: &'a BootRow, pair: u16) -> Option<Site
 }
 
 /// The call site at an index.
-fn site_at<'a>(entries: &'a [Entry], boots: &'a [BootRow], index: u16) -> Option<Site<'a>>
+pub fn site_at<'a>(entries: &'a [Entry], boots: &'a [BootRow], index: u16) -> Option<Site<'a>>
     ensures some { IfSome result (λ s. sites.site_at entries.now boots.now index ≡ Some (record { name = s.name.now; descr = s.descr.now; method = record { kind = s.method.kind; member = record { class = s.method.member.class.now; name = s.method.member.name.now; descr = s.method.member.descr.now } }; args = s.args.now })) }
     ensures none { IfNone result (sites.site_at entries.now boots.now index ≡ None) }
 {
