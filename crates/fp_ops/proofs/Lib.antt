@@ -3,3 +3,4 @@ mod Spelled
 mod Walking
 mod Places
 mod NamedParts
+mod SiteTexts

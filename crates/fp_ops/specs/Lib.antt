@@ -1,1 +1,3 @@
+pub mod CallSites
+pub mod Forms
 pub mod Marks

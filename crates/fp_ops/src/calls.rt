@@ -11,7 +11,7 @@ use fp_model::{Descr, DescrFault, Entry, Instr, read_descr};
 use std::alloc::Global;
 
 /// The kinds that a method descriptor says.
-fn method_kinds(alloc: Global, descr: &[u8], names: &mut Names) -> Result<Descr, NameFault>
+pub fn method_kinds(alloc: Global, descr: &[u8], names: &mut Names) -> Result<Descr, NameFault>
     requires descr { is_method_descriptor descr.now ≡ true }
     requires short { length descr.now < 2 ^ 31 }
     ensures kinds { IfOk result (IsDescrOf names.new descr.now) }

@@ -5,16 +5,21 @@ mod branches;
 mod calls;
 mod constants;
 mod forms;
+mod instr;
 mod jumps;
 mod named;
 mod operands;
 mod plain;
 mod reading;
+mod sites;
+mod soundness;
 mod switches;
 
 pub use branches::check_targets;
 pub use forms::operands_of;
+pub use instr::to_instr;
 pub use reading::decode;
+pub use soundness::has_form;
 
 #[cfg(test)]
 mod tests;

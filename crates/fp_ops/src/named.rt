@@ -29,7 +29,7 @@ pub struct Numbers {
 }
 
 /// The number of a text.
-fn number(alloc: Global, text: &[u8], names: &mut Names) -> Result<u32, NameFault>
+pub fn number(alloc: Global, text: &[u8], names: &mut Names) -> Result<u32, NameFault>
     ensures number { IfOk result (λ n. slice_get names.new n ≡ Some text.now) }
     ensures names { Interned result names.old names.new (text.now ∷ []) }
 {

@@ -1,7 +1,8 @@
 ghost use Rattle.std.specs.Prelude.{◌≡◌, ◌<◌, ◌≤◌, length};
 
-use crate::{check_targets, decode};
-use fp_model::{Entry, FileFault, Pool, RawIns};
+use crate::{check_targets, decode, has_form, to_instr};
+use fp_base::Names;
+use fp_model::{BootRow, Entry, FileFault, Pool, RawIns};
 use sqlite_items::Items;
 use std::alloc::{AllocError, Global};
 use std::test::Fail;
@@ -372,6 +373,171 @@ fn branches_lead_to_instructions(rt: HostRuntime) -> Result<(), Fail> {
     ] {
         assert!(rt; code.len() < 100);
         assert_eq!(rt; fault_at_90(rt.alloc(), &pool, code)?, wanted, "{code:?}");
+    }
+    Ok(())
+}
+
+/// The one row of bootstrap methods: a handle of `A.m()V`, with the type `()V`, that handle and an int.
+fn boots(alloc: Global) -> Result<Vec<BootRow>, AllocError> {
+    let mut rows = Vec::new(alloc);
+    rows.push(BootRow {
+        method: 20,
+        args: Items::from_slice(alloc, &[21, 20, 5])?,
+    })?;
+    Ok(rows)
+}
+
+/// The form of an instruction at the offset 10, as text, over a table that has no name yet; none where it has no form.
+fn form(
+    alloc: Global,
+    pool: &Pool,
+    boots: &[BootRow],
+    op: u8,
+    args: &[u8],
+) -> Result<Option<String>, Fail> {
+    let ins = RawIns {
+        op,
+        wide: false,
+        padding: Items::new(alloc),
+        args: Items::from_slice(alloc, args)?,
+    };
+    if !has_form(alloc, &ins, 10, pool, boots)? {
+        return Ok(None);
+    }
+    let mut names = Names::new(alloc);
+    match to_instr(alloc, &ins, 10, pool, boots, &mut names) {
+        Ok(instr) => Ok(Some(format!(in alloc; "{instr:?}")?)),
+        Err(_) => Ok(None),
+    }
+}
+
+/// Each form, by chapter 6.
+#[test]
+fn each_form_is_told(rt: HostRuntime) -> Result<(), Fail> {
+    let pool = pool(rt.alloc())?;
+    let boots = boots(rt.alloc())?;
+    for (op, args, wanted) in [
+        (0, b"".as_slice(), Some("Nop")),
+        (1, b"", Some("Null")),
+        (2, b"", Some("Const { sort: Int }")),
+        (10, b"", Some("Const { sort: Long }")),
+        (11, b"", Some("Const { sort: Float }")),
+        (15, b"", Some("Const { sort: Double }")),
+        (17, b"\x80\0", Some("Const { sort: Int }")),
+        (18, b"\x05", Some("Const { sort: Int }")),
+        (18, b"\x02", Some("ConstRef")),
+        (19, b"\0\x0B", Some("ConstRef")),
+        (20, b"\0\x09", Some("Const { sort: Double }")),
+        (20, b"\0\x19", Some("Const { sort: Long }")),
+        (24, b"\x02", Some("Load { sort: Double, at: 2 }")),
+        (45, b"", Some("Load { sort: Ref, at: 3 }")),
+        (54, b"\x03", Some("Store { sort: Int, at: 3 }")),
+        (63, b"", Some("Store { sort: Long, at: 0 }")),
+        (46, b"", Some("ArrayLoad { op: 46 }")),
+        (86, b"", Some("ArrayStore { op: 86 }")),
+        (95, b"", Some("Shuffle { op: 95 }")),
+        (96, b"", Some("Op { op: 96 }")),
+        (152, b"", Some("Op { op: 152 }")),
+        (132, b"\x03\xFF", Some("Inc { at: 3 }")),
+        (153, b"\0\x05", Some("If { op: 153, to: 15 }")),
+        (199, b"\xFF\xF6", Some("If { op: 199, to: 0 }")),
+        (167, b"\xFF\xFE", Some("Goto { to: 8 }")),
+        (200, b"\0\0\0\x05", Some("Goto { to: 15 }")),
+        (
+            170,
+            b"\0\0\0\x05\0\0\0\0\0\0\0\x01\0\0\0\x06\xFF\xFF\xFF\xFC",
+            Some("Switch { to: Items { items: [15, 16, 6] } }"),
+        ),
+        (
+            171,
+            b"\0\0\0\x05\0\0\0\x01\0\0\0\x07\0\0\0\x08",
+            Some("Switch { to: Items { items: [15, 18] } }"),
+        ),
+        (176, b"", Some("Return { op: 176 }")),
+        (
+            178,
+            b"\0\x11",
+            Some("GetStatic { class: 0, name: 1, descr: 2, kind: Int(73) }"),
+        ),
+        (
+            179,
+            b"\0\x11",
+            Some("PutStatic { class: 0, name: 1, descr: 2, kind: Int(73) }"),
+        ),
+        (
+            180,
+            b"\0\x11",
+            Some("GetField { class: 0, name: 1, descr: 2, kind: Int(73) }"),
+        ),
+        (
+            181,
+            b"\0\x11",
+            Some("PutField { class: 0, name: 1, descr: 2, kind: Int(73) }"),
+        ),
+        (
+            182,
+            b"\0\x12",
+            Some(
+                "InvokeVirtual { class: 0, name: 1, descr: 2, kinds: Descr { args: Items { items: [] }, result: None } }",
+            ),
+        ),
+        (
+            183,
+            b"\0\x12",
+            Some(
+                "InvokeSpecial { class: 0, name: 1, descr: 2, kinds: Descr { args: Items { items: [] }, result: None } }",
+            ),
+        ),
+        (
+            184,
+            b"\0\x13",
+            Some(
+                "InvokeStatic { class: 0, name: 1, descr: 2, kinds: Descr { args: Items { items: [] }, result: None } }",
+            ),
+        ),
+        (
+            185,
+            b"\0\x13\x01\0",
+            Some(
+                "InvokeInterface { class: 0, name: 1, descr: 2, kinds: Descr { args: Items { items: [] }, result: None } }",
+            ),
+        ),
+        (
+            186,
+            b"\0\x1A\0\0",
+            Some(
+                "InvokeDynamic { name: 0, descr: Descr { args: Items { items: [] }, result: None }, boot: BootRef { kind: 6, class: 1, name: 0, descr: 2 }, args: Items { items: [Sig(Descr { args: Items { items: [] }, result: None }), Ref(BootRef { kind: 6, class: 1, name: 0, descr: 2 }), Other] } }",
+            ),
+        ),
+        (187, b"\0\x02", Some("New { class: 0 }")),
+        (188, b"\x0A", Some("NewArray { dims: 1, element: Int(73) }")),
+        (
+            189,
+            b"\0\x02",
+            Some("NewArray { dims: 1, element: Class(0) }"),
+        ),
+        (
+            189,
+            b"\0\x04",
+            Some("NewArray { dims: 1, element: Array(2, Prim(73)) }"),
+        ),
+        (
+            197,
+            b"\0\x04\x02",
+            Some("NewArray { dims: 2, element: Array(1, Prim(73)) }"),
+        ),
+        (190, b"", Some("ArrayLength")),
+        (191, b"", Some("Throw")),
+        (192, b"\0\x04", Some("CheckCast { class: 0 }")),
+        (193, b"\0\x02", Some("InstanceOf { class: 0 }")),
+        (195, b"", Some("Monitor")),
+        // A method for a field, a place before the code, and no call site.
+        (178, b"\0\x12", None),
+        (167, b"\xFF\xF5", None),
+        (186, b"\0\x15\0\0", None),
+    ] {
+        let text = form(rt.alloc(), &pool, boots.as_slice(), op, args)?;
+        assert_eq!(rt; text.as_deref(), wanted, "{op}");
     }
     Ok(())
 }
