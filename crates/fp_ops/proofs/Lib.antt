@@ -4,3 +4,4 @@ mod Walking
 mod Places
 mod NamedParts
 mod SiteTexts
+mod Referred

@@ -1,3 +1,4 @@
 pub mod CallSites
+pub mod Checked
 pub mod Forms
 pub mod Marks

@@ -7,6 +7,7 @@ mod constants;
 mod forms;
 mod instr;
 mod jumps;
+mod law;
 mod named;
 mod operands;
 mod plain;
@@ -18,6 +19,7 @@ mod switches;
 pub use branches::check_targets;
 pub use forms::operands_of;
 pub use instr::to_instr;
+pub use law::law_pool_gives_forms;
 pub use reading::decode;
 pub use soundness::has_form;
 

@@ -1,8 +1,4 @@
-use Rattle.std.proofs.Common.{◌≡◌, [], ◌∷◌}
-use Rattle.fp_model.specs.declared.class.instr.BootRef.{BootRef}
-use Rattle.fp_model.specs.NamedInstructions.{MemberTexts}
 use Rattle.fp_model.proofs.Interned.{Keeps-then}
-use Rattle.fp_model.proofs.Interned as interned
 use Rattle.fp_model.proofs.Taking.{kept_by}
 use Rattle.fp_ops.proofs.SiteTexts.{IsBootRef-kept, IsDescrOf-kept}
 use Rattle.fp_ops.proofs.sites.site_instr.Goals as goal
