@@ -6,7 +6,8 @@ use Rattle.std.specs.List.{list_all}
 use Rattle.fp_model.specs.declared.raw.pool.Entry.{Entry}
 use Rattle.fp_model.specs.declared.raw.Raw.{Raw}
 use Rattle.fp_model.specs.declared.raw.RawMember.{RawMember}
-use Rattle.fp_model.specs.Thin.{passes, is_version, is_sound_entry, is_class_index, is_parent, is_sound_field, has_no_repeat, is_sound}
+use Rattle.fp_model.specs.Entries.{passes, is_class_index}
+use Rattle.fp_model.specs.Thin.{is_version, is_sound_entry, is_parent, is_sound_field, has_no_repeat, is_sound}
 
 regroup : (a b c d e f rest : Bool) → ((a && (b && (c && (d && (e && f))))) && rest) ≡ (a && (b && (c && (d && (e && (f && rest))))))
 regroup false b c d e f rest = refl

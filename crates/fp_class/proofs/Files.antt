@@ -9,8 +9,8 @@ use Rattle.fp_model.specs.declared.raw.pool.Entry.{Entry}
 use Rattle.fp_model.specs.declared.raw.pool.Entry.TheVariants as entry
 use Rattle.fp_model.specs.declared.raw.Raw.{Raw}
 use Rattle.fp_model.specs.Reading.{Gives, unbuilt, demanded, number_at, counted_at, nothing_at}
-use Rattle.fp_model.specs.Spelling.{u2, u4, counted, spelled_pool, spelled_member, spelled_attr, spelled}
-use Rattle.fp_model.specs.Thin.{is_u2, is_thin_entry, is_thin_pool, is_bare, has_thin_form, is_sound, IsThin, pool_at, field_at, parts_of, thin_of, or_unbuilt, class_of}
+use Rattle.fp_model.specs.Spelling.{u2, u4, counted, spelled_pool, spelled_member, spelled_attr, spelled, is_u2}
+use Rattle.fp_model.specs.Thin.{is_thin_entry, is_thin_pool, is_bare, has_thin_form, is_sound, IsThin, pool_at, field_at, parts_of, thin_of, or_unbuilt, class_of}
 use Rattle.fp_model.proofs.Takes.{Takes, Takes-then, Takes-split, Takes-whole, Takes-all}
 use Rattle.fp_model.proofs.Readers.{opened, stepped, demanded-true, demanded-Ok, IsBytes, IsReader, reads_u2, u4_takes, u4_again, reads_counted, nothing_takes, nothing_again}
 use Rattle.fp_class.proofs.Pieces.{reads_pool, reads_field}

@@ -4,7 +4,7 @@ use Rattle.std.specs.List.{slice_get}
 use Rattle.std.specs.Option.{unwrap_or}
 use Rattle.fp_model.specs.declared.raw.pool.Entry.{Entry}
 use Rattle.fp_model.specs.Descriptor.{is_field_descriptor}
-use Rattle.fp_model.specs.Thin.{passes, text_at}
+use Rattle.fp_model.specs.Entries.{passes, text_at}
 use Rattle.fp_class.specs.Descriptors.{descriptor_marks}
 
 mark_of : (entries : List Entry) (i : ℕ) → unwrap_or (slice_get (descriptor_marks entries) i) false ≡ passes is_field_descriptor (text_at entries i)

@@ -12,7 +12,7 @@ use Rattle.fp_base.proofs.NameLemmas.{has_name-at, has_name-interned, has_name-k
 use Rattle.fp_model.specs.declared.raw.pool.Entry.{Entry}
 use Rattle.fp_model.specs.declared.kind.Kind.{Kind}
 use Rattle.fp_model.specs.Descriptor.{kind_names, IsKindOf}
-use Rattle.fp_model.specs.Thin.{text_at, class_name_at}
+use Rattle.fp_model.specs.Entries.{text_at, class_name_at}
 use Rattle.fp_model.proofs.LongerTables.{Keeps, IsKindOf-kept}
 use Rattle.fp_class.specs.declared.memo.Memo.{Memo}
 use Rattle.fp_model.specs.Interning.{Interned}

@@ -15,7 +15,8 @@ use Rattle.fp_model.specs.declared.class.Field.{Field}
 use Rattle.fp_model.specs.Classes.{field_names, raw_names, IsFieldOf, IsClassOf}
 use Rattle.fp_model.specs.ClassSet.{IsFieldOver, IsMethodOver}
 use Rattle.fp_model.specs.Descriptor.{is_field_descriptor, IsBadAt, IsKindOf}
-use Rattle.fp_model.specs.Thin.{text_in, text_at, class_name_at, is_thin_entry, is_thin_pool, is_sound_field}
+use Rattle.fp_model.specs.Entries.{text_in, text_at, class_name_at}
+use Rattle.fp_model.specs.Thin.{is_thin_entry, is_thin_pool, is_sound_field}
 use Rattle.fp_model.proofs.LongerTables.{Keeps, IsKindOf-kept}
 use Rattle.fp_class.proofs.Repeating.{texts_of}
 use Rattle.fp_model.proofs.Interned.{Keeps-then}

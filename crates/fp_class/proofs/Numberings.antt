@@ -7,7 +7,7 @@ use Rattle.std.specs.Option.{option_to_list}
 use Rattle.fp_base.specs.Names.{has_name, with_name, with_names, AreDistinct}
 use Rattle.fp_base.proofs.NameLemmas.{with_name-known, with_name-new, slice_get-with_names, AreDistinct-nil, AreDistinct-with_names}
 use Rattle.fp_model.specs.declared.raw.pool.Entry.{Entry}
-use Rattle.fp_model.specs.Thin.{text_in, text_at}
+use Rattle.fp_model.specs.Entries.{text_in, text_at}
 use Rattle.fp_class.specs.Keys.{IsNumbering}
 
 -- a table gets at most one text more

@@ -9,8 +9,8 @@ use Rattle.fp_model.specs.declared.raw.pool.Entry.TheVariants as entry
 use Rattle.fp_model.specs.declared.raw.pool.Pool.{Pool}
 use Rattle.fp_model.specs.declared.raw.RawMember.{RawMember}
 use Rattle.fp_model.specs.Reading.{unbuilt, demanded, number_at, bytes_at, nothing_at}
-use Rattle.fp_model.specs.Spelling.{u1, u2, counted, spelled_entry, spelled_pool, spelled_member, spelled_attr}
-use Rattle.fp_model.specs.Thin.{is_u2, is_thin_entry, is_thin_pool, is_bare, text_entry_at, class_entry_at, entry_at, entries_at, pool_at, field_at}
+use Rattle.fp_model.specs.Spelling.{u1, u2, counted, spelled_entry, spelled_pool, spelled_member, spelled_attr, is_u2}
+use Rattle.fp_model.specs.Thin.{is_thin_entry, is_thin_pool, is_bare, text_entry_at, class_entry_at, entry_at, entries_at, pool_at, field_at}
 use Rattle.fp_model.proofs.Takes.{Takes, Takes-then, Takes-split, Takes-first, Takes-rest, Takes-room}
 use Rattle.fp_model.proofs.Readers.{opened, stepped, demanded-true, demanded-Ok, IsBytes, IsReader, reads_u2, u1_takes, u1_again, bytes_takes, bytes_again, many_takes, many_again, nothing_takes, nothing_again}
 

@@ -12,7 +12,8 @@ use Rattle.std.specs.Str.{bytes_eq}
 use Rattle.fp_model.specs.declared.raw.pool.Entry.{Entry}
 use Rattle.fp_model.specs.declared.raw.RawMember.{RawMember}
 use Rattle.fp_model.specs.Descriptor.{is_field_descriptor}
-use Rattle.fp_model.specs.Thin.{text_at, passes, is_sound_field, is_repeat, has_no_repeat}
+use Rattle.fp_model.specs.Entries.{text_at, passes}
+use Rattle.fp_model.specs.Thin.{is_sound_field, is_repeat, has_no_repeat}
 use Rattle.fp_class.specs.declared.repeats.Key.{Key}
 use Rattle.fp_class.specs.Keys.{IsNumbering, key_of, key_cmp, has_key}
 use Rattle.fp_class.proofs.Numberings.{text_within}

@@ -2,7 +2,7 @@
 use Rattle.std.specs.Prelude.{Bool, List, Some, map}
 use Rattle.fp_model.specs.declared.raw.pool.Entry.{Entry}
 use Rattle.fp_model.specs.Descriptor.{is_field_descriptor}
-use Rattle.fp_model.specs.Thin.{passes, text_in}
+use Rattle.fp_model.specs.Entries.{passes, text_in}
 
 -- whether an entry is the text of a field descriptor
 abbrev pub is_descriptor_entry : Entry → Bool

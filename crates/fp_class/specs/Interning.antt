@@ -3,7 +3,7 @@ use Rattle.std.specs.Prelude.{◌≡◌, ℕ, List, slice_get, Option, Some, Non
 use Rattle.fp_model.specs.declared.raw.pool.Entry.{Entry}
 use Rattle.fp_model.specs.declared.raw.RawMember.{RawMember}
 use Rattle.fp_model.specs.declared.class.Field.{Field}
-use Rattle.fp_model.specs.Thin.{text_at, class_name_at}
+use Rattle.fp_model.specs.Entries.{text_at, class_name_at}
 use Rattle.fp_model.specs.Descriptor.{IsKindOf}
 
 -- the number is that of the name of the class at an index

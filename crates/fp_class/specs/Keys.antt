@@ -5,7 +5,7 @@ use Rattle.std.specs.declared.cmp.Ordering.{Ordering}
 use Rattle.std.specs.Ordering.{nat_cmp, ordering_then, is_eq}
 use Rattle.fp_model.specs.declared.raw.pool.Entry.{Entry}
 use Rattle.fp_model.specs.declared.raw.RawMember.{RawMember}
-use Rattle.fp_model.specs.Thin.{text_at}
+use Rattle.fp_model.specs.Entries.{text_at}
 use Rattle.fp_class.specs.declared.repeats.Key.{Key}
 
 -- a number for each index, equal ones exactly for equal texts

@@ -6,7 +6,7 @@ use Rattle.fp_base.specs.Names.{has_name}
 use Rattle.fp_model.specs.declared.raw.pool.Entry.{Entry}
 use Rattle.fp_model.specs.declared.kind.Kind.{Kind}
 use Rattle.fp_model.specs.Descriptor.{kind_names, IsKindOf}
-use Rattle.fp_model.specs.Thin.{text_at}
+use Rattle.fp_model.specs.Entries.{text_at}
 use Rattle.fp_class.specs.declared.memo.Memo.{Memo}
 
 -- what a list of what is known has at an index

@@ -2,7 +2,6 @@
 #![tactic(auto)]
 
 mod descriptors;
-mod entries;
 mod memo;
 mod naming;
 mod parts;

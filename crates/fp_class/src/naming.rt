@@ -5,15 +5,15 @@ ghost use Rattle.std.specs.Option.{option_to_list};
 ghost use Rattle.fp_base.specs.Names.{with_names};
 ghost use Rattle.fp_model.specs.Classes.{field_names, raw_names, IsClassOf};
 ghost use Rattle.fp_model.specs.Descriptor.{is_field_descriptor, kind_names, IsKindOf, LacksRoom};
-ghost use Rattle.fp_model.specs.Thin.{passes, class_name_at, is_class_index, is_sound_field, is_thin_pool, text_at, IsThin};
+ghost use Rattle.fp_model.specs.Entries.{passes, class_name_at, is_class_index, text_at};
+ghost use Rattle.fp_model.specs.Thin.{is_sound_field, is_thin_pool, IsThin};
 ghost use Rattle.fp_model.specs.Interning.{HasNoRoom, Interned};
 ghost use Rattle.fp_class.specs.Interning.{IsClassName, IsNamedField, IsParentName};
 ghost use Rattle.fp_class.specs.Memos.{IsMemo};
 
-use crate::entries;
 use crate::memo::{Memo, empty_memo, keep_kind, keep_number, known_kind, known_number};
 use fp_base::{NameFault, Names};
-use fp_model::{Class, DescrFault, Entry, Field, Kind, Raw, RawMember, read_kind};
+use fp_model::{Class, DescrFault, Entry, Field, Kind, Raw, RawMember, look_up, read_kind};
 use sqlite_items::{Items, at};
 use std::alloc::Global;
 
@@ -28,7 +28,7 @@ fn intern_text(
     ensures number { IfOk result (λ n. slice_get names.new n ≡ text_at entries.now index) }
     ensures names { Interned result names.old names.new (unwrap_or (text_at entries.now index) [] ∷ []) }
 {
-    match entries::text(entries, index) {
+    match look_up::text(entries, index) {
         Some(text) => names.intern(alloc, text),
         None => unreachable!(),
     }
@@ -93,7 +93,7 @@ fn parent_name(
     ensures names { Interned result names.old names.new (option_to_list (class_name_at entries.now index)) }
     ensures memo { OnOk result (IsMemo names.new entries.now memo.new) }
 {
-    if entries::class_name(entries, index).is_none() {
+    if look_up::class_name(entries, index).is_none() {
         return Ok(None);
     }
     match class_name(alloc, entries, index, names, memo) {
@@ -153,7 +153,7 @@ fn read_kind_at(
     ensures kind { IfOk result (IsKindOf names.new (unwrap_or (text_at entries.now index) [])) }
     ensures names { Interned result names.old names.new (kind_names (unwrap_or (text_at entries.now index) [])) }
 {
-    match entries::text(entries, index) {
+    match look_up::text(entries, index) {
         Some(descr) => kind(alloc, descr, names),
         None => unreachable!(),
     }

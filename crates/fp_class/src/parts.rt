@@ -1,10 +1,9 @@
 ghost use Rattle.std.specs.Prelude.{◌≡◌, ◌^◌, ◌<◌, [], length};
-ghost use Rattle.std.specs.Int.{w16};
-ghost use Rattle.fp_model.specs.Reading.{Gives, number_at, many_at, counted_at, nothing_at};
+ghost use Rattle.fp_model.specs.Reading.{Gives, many_at, counted_at, nothing_at};
 ghost use Rattle.fp_model.specs.Thin.{field_at, parts_of};
 
 use crate::pool;
-use fp_model::reading::{u16_at, u32_at};
+use fp_model::reading::{u16_at, u16s_at, u32_at};
 use fp_model::{FileFault, Raw, RawMember};
 use sqlite_items::Items;
 use std::alloc::Global;
@@ -28,7 +27,7 @@ pub fn parts(alloc: Global, bytes: &[u8]) -> Result<Raw, FileFault>
     let (flags, next) = u16_at(bytes, next)?;
     let (this, next) = u16_at(bytes, next)?;
     let (parent, next) = u16_at(bytes, next)?;
-    let (interfaces, next) = interfaces(alloc, bytes, next)?;
+    let (interfaces, next) = u16s_at(alloc, bytes, next)?;
     let (fields, next) = fields(alloc, bytes, next)?;
     let behind_methods = nothing(bytes, next)?;
     let end = nothing(bytes, behind_methods)?;
@@ -60,31 +59,6 @@ fn nothing(bytes: &[u8], at: u32) -> Result<u32, FileFault>
         return Err(FileFault::Unbuilt { at: 0 });
     }
     Ok(next)
-}
-
-/// How many interfaces there are, and their indexes.
-#[tactic(auto, unfolding(fp_model::specs::Reading::counted_at))]
-fn interfaces(alloc: Global, bytes: &[u8], at: u32) -> Result<(Items<u16>, u32), FileFault>
-    requires { length bytes.now < 2 ^ 32 }
-    ensures { Gives result (counted_at (number_at w16 bytes.now) bytes.now at) }
-{
-    let (count, next) = u16_at(bytes, at)?;
-    indexes(alloc, bytes, next, count)
-}
-
-/// So many indexes.
-fn indexes(alloc: Global, bytes: &[u8], at: u32, count: u16) -> Result<(Items<u16>, u32), FileFault>
-    requires { length bytes.now < 2 ^ 32 }
-    ensures { Gives result (many_at (number_at w16 bytes.now) count [] at) }
-{
-    let mut indexes = Vec::new(alloc);
-    let mut next = at;
-    for _left in 0..count {
-        let (index, end) = u16_at(bytes, next)?;
-        indexes.push(index)?;
-        next = end;
-    }
-    Ok((Items::from_vec(indexes), next))
 }
 
 /// How many fields there are, and each of them.

@@ -3,7 +3,8 @@ ghost use Rattle.std.specs.Prelude.{◌≡◌, ◌+◌, ◌<◌, ◌≤◌, [], 
 ghost use Rattle.std.specs.List.{list_all};
 ghost use Rattle.std.specs.Option.{option_to_list};
 ghost use Rattle.fp_base.specs.Names.{with_names};
-ghost use Rattle.fp_model.specs.Thin.{text_in, is_sound_field};
+ghost use Rattle.fp_model.specs.Entries.{text_in};
+ghost use Rattle.fp_model.specs.Thin.{is_sound_field};
 ghost use Rattle.fp_model.specs.Thin as thin;
 ghost use Rattle.fp_class.specs.Keys.{IsNumbering, key_of};
 

@@ -3,13 +3,13 @@ ghost use Rattle.std.specs.Prelude.{◌≡◌, ◌&&◌, nat_lt, codes, IsTrue, 
 ghost use Rattle.std.specs.List.{list_all};
 ghost use Rattle.fp_model.specs.Descriptor.{is_array_like};
 ghost use Rattle.std.specs.Str.{bytes_eq};
-ghost use Rattle.fp_model.specs.Thin.{passes, class_name_at};
+ghost use Rattle.fp_model.specs.Entries.{passes, class_name_at, is_class_index};
 ghost use Rattle.fp_model.specs.Thin as thin;
 ghost use Rattle.fp_class.specs.Descriptors.{descriptor_marks};
 
 use crate::descriptors::{is_marked, mark_descriptors};
-use crate::entries::{class_name, text};
 use crate::repeats::has_no_repeat;
+use fp_model::look_up::{class_name, is_class, text};
 use fp_model::{Entry, Raw, RawMember};
 use std::alloc::{AllocError, Global};
 
@@ -45,16 +45,6 @@ fn is_sound_entry(entries: &[Entry], marks: &[bool], entry: &Entry) -> bool
     }
 }
 
-/// Whether an index is that of a class which is no array.
-fn is_class_index(entries: &[Entry], index: u16) -> bool
-    ensures { result ≡ thin.is_class_index entries.now index }
-{
-    match class_name(entries, index) {
-        Some(name) => !is_array(name),
-        None => false,
-    }
-}
-
 /// Whether an index is that of the class without a superclass.
 fn is_object(entries: &[Entry], this: u16) -> bool
     ensures { result ≡ passes (bytes_eq (codes "java/lang/Object")) (class_name_at entries.now this) }
@@ -69,7 +59,7 @@ fn is_object(entries: &[Entry], this: u16) -> bool
 fn is_parent(entries: &[Entry], this: u16, parent: u16) -> bool
     ensures { result ≡ thin.is_parent entries.now this parent }
 {
-    is_class_index(entries, parent) || parent == 0 && is_object(entries, this)
+    is_class(entries, parent) || parent == 0 && is_object(entries, this)
 }
 
 /// Whether a field's name is a text and its descriptor that of a field.
@@ -93,9 +83,9 @@ fn are_sound_entries(entries: &[Entry], marks: &[bool]) -> bool
 
 /// Whether each index is that of a class which is no array.
 fn are_class_indexes(entries: &[Entry], indexes: &[u16]) -> bool
-    ensures { result ≡ list_all (thin.is_class_index entries.now) indexes.now }
+    ensures { result ≡ list_all (is_class_index entries.now) indexes.now }
 {
-    indexes.iter().all(|index| is_class_index(entries, *index))
+    indexes.iter().all(|index| is_class(entries, *index))
 }
 
 /// Whether each field has a name and a descriptor.
@@ -114,14 +104,14 @@ fn is_sound_head(entries: &[Entry], marks: &[bool], raw: &Raw) -> bool
     ensures { result ≡ (thin.is_version raw.now.major raw.now.minor
         && (list_all (thin.is_sound_entry entries.now) entries.now
         && (nat_lt raw.now.flags MODULE
-        && (thin.is_class_index entries.now raw.now.this
+        && (is_class_index entries.now raw.now.this
         && (thin.is_parent entries.now raw.now.this raw.now.parent
-        && list_all (thin.is_class_index entries.now) raw.now.interfaces))))) }
+        && list_all (is_class_index entries.now) raw.now.interfaces))))) }
 {
     is_version(raw.major, raw.minor)
         && are_sound_entries(entries, marks)
         && raw.flags < MODULE
-        && is_class_index(entries, raw.this)
+        && is_class(entries, raw.this)
         && is_parent(entries, raw.this, raw.parent)
         && are_class_indexes(entries, raw.interfaces.as_slice())
 }

@@ -1,6 +1,6 @@
-use crate::entries::{class_name, text};
 use crate::{read_class, to_class};
 use fp_base::Names;
+use fp_model::look_up::{class_name, text};
 use fp_model::{Field, FileFault, Kind};
 use std::test::Fail;
 

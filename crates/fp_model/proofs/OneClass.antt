@@ -18,7 +18,7 @@ use Rattle.fp_model.specs.declared.kind.Kind.{Kind}
 use Rattle.fp_model.specs.declared.kind.Elem.{Elem}
 use Rattle.fp_model.specs.declared.kind.Elem.TheVariants as elem
 use Rattle.fp_model.specs.Descriptor.{dimensions, element_text, is_element, is_field_descriptor, is_proper, kind_text, text_of, IsKindOf}
-use Rattle.fp_model.specs.Thin.{text_at, class_name_at}
+use Rattle.fp_model.specs.Entries.{text_at, class_name_at}
 use Rattle.fp_model.specs.ClassSet.{IsFieldOver}
 use Rattle.fp_model.specs.Classes.{class_in, element_in, field_in, kind_in, number_in, IsClassOf, IsFieldOf}
 use Rattle.fp_model.proofs.ElementTexts.{name_parts}

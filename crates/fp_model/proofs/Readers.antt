@@ -8,8 +8,7 @@ use Rattle.std.specs.List.{list_all, flat_map}
 use Rattle.std.specs.Int.{Width, w8, w16, w32, w64, byte_len, from_be_bytes}
 use Rattle.fp_model.specs.declared.fault.FileFault.{FileFault}
 use Rattle.fp_model.specs.Reading.{◌>>=◌, unbuilt, demanded, number_at, bytes_at, many_at, counted_at, nothing_at}
-use Rattle.fp_model.specs.Spelling.{u1, u2, u4, u8, counted}
-use Rattle.fp_model.specs.Thin.{is_u2}
+use Rattle.fp_model.specs.Spelling.{u1, u2, u4, u8, counted, is_u2}
 use Rattle.fp_model.proofs.Takes.{Takes, Takes-nil, Takes-then, Takes-rest, Takes-first, Takes-run, Takes-room, Takes-text}
 
 -- ---- steps

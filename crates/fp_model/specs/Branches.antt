@@ -11,7 +11,7 @@ use Rattle.fp_model.specs.Form.{form_of}
 use Rattle.fp_model.specs.Reading.{demanded, number_at}
 use Rattle.fp_model.specs.References.{each_checked}
 use Rattle.fp_model.specs.Spelling.{spelled_ins}
-use Rattle.fp_model.specs.Thin.{passes}
+use Rattle.fp_model.specs.Entries.{passes}
 
 -- one of the instructions, the first of which begins at pc, begins at a place
 unfoldable pub starts_at : ℕ → List RawIns → ℕ → Bool

@@ -13,7 +13,7 @@ use Rattle.fp_model.specs.declared.kind.Elem.{Elem}
 use Rattle.fp_model.specs.declared.kind.Elem.TheVariants as elem
 use Rattle.fp_base.specs.Names.{number_of}
 use Rattle.fp_model.specs.Descriptor.{kind_names, dimensions}
-use Rattle.fp_model.specs.Thin.{text_at, class_name_at}
+use Rattle.fp_model.specs.Entries.{text_at, class_name_at}
 use Rattle.fp_model.specs.ClassSet.{IsClassOver}
 
 -- the texts of a field, in order

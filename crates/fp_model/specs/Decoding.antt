@@ -11,9 +11,9 @@ use Rattle.fp_model.specs.declared.raw.pool.Entry.TheVariants as entry
 use Rattle.fp_model.specs.declared.raw.attribute.RawIns.{RawIns}
 use Rattle.fp_model.specs.Descriptor.{dimensions}
 use Rattle.fp_model.specs.Form.{form_of}
-use Rattle.fp_model.specs.Reading.{demanded, number_at, bytes_at, ◌>>=◌}
-use Rattle.fp_model.specs.References.{descr_at, holds_of, tag_at}
-use Rattle.fp_model.specs.Thin.{passes, class_name_at, is_class_index}
+use Rattle.fp_model.specs.Reading.{behind, demanded, number_at, bytes_at, ◌>>=◌}
+use Rattle.fp_model.specs.Entries.{tag_at, passes, class_name_at, is_class_index}
+use Rattle.fp_model.specs.References.{descr_at, holds_of}
 
 -- ---- what an instruction asks of the constant pool
 
@@ -48,10 +48,6 @@ abbrev pub has_dimensions : ℕ → Option (List ℕ) → Bool
 has_dimensions dims = holds_of (λ name. nat_le dims (dimensions name))
 
 -- ---- operands
-
--- the offset behind so many bytes
-unfoldable pub behind : ℕ → List ℕ → ℕ → Result ℕ FileFault
-behind count bytes at = if nat_le (at + count) (length bytes) then Ok (at + count) else Err (fault.Truncated at)
 
 -- a local and its words lie in the frame
 abbrev pub within : (max_locals op_at local words : ℕ) → Result (Unit {0}) FileFault

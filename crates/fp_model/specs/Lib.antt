@@ -3,6 +3,7 @@ pub mod Classes
 pub mod ClassSet
 pub mod Decoding
 pub mod Descriptor
+pub mod Entries
 pub mod Limits
 pub mod Form
 pub mod Instructions

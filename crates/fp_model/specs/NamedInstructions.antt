@@ -7,7 +7,7 @@ use Rattle.fp_model.specs.declared.kind.Kind.TheVariants as kind
 use Rattle.fp_model.specs.declared.raw.pool.Entry.{Entry}
 use Rattle.fp_model.specs.declared.raw.pool.Entry.TheVariants as entry
 use Rattle.fp_model.specs.Descriptor.{is_array_like, is_class_text, is_field_descriptor, descr_names, kind_names, IsDescrOf, IsKindOf}
-use Rattle.fp_model.specs.Thin.{passes, text_at, class_name_at}
+use Rattle.fp_model.specs.Entries.{passes, text_at, class_name_at}
 
 -- the texts of a reference to a member (section 4.4.2)
 pub record MemberTexts : Type 0 where

@@ -32,6 +32,10 @@ Gives (Err e) read = Fails e read
 unfoldable pub bytes_at : ℕ → List ℕ → ℕ → Result (List ℕ × ℕ) FileFault
 bytes_at count bytes at = if nat_le (at + count) (length bytes) then Ok (take count (drop at bytes), at + count) else Err (fault.Truncated at)
 
+-- the offset behind so many bytes
+unfoldable pub behind : ℕ → List ℕ → ℕ → Result ℕ FileFault
+behind count bytes at = if nat_le (at + count) (length bytes) then Ok (at + count) else Err (fault.Truncated at)
+
 -- a number, the high byte first
 unfoldable pub number_at : Width → List ℕ → ℕ → Result (ℕ × ℕ) FileFault
 number_at w bytes at =

@@ -9,36 +9,7 @@ use Rattle.fp_model.specs.Descriptor.{is_class_text, is_field_descriptor, is_met
 use Rattle.fp_model.specs.Pool.{pool_at}
 use Rattle.fp_model.specs.Reading.{demanded, ◌>>=◌}
 use Rattle.fp_model.specs.Spelling.{spelled_entry}
-use Rattle.fp_model.specs.Thin.{text_at}
-
--- the tag of an entry (table 4.4-A), 0 for what holds none
-abbrev pub tag_of : Entry → ℕ
-tag_of entry.Unused = 0
-tag_of (entry.Utf8 text) = 1
-tag_of (entry.Integer bits) = 3
-tag_of (entry.Float bits) = 4
-tag_of (entry.Long bits) = 5
-tag_of (entry.Double bits) = 6
-tag_of (entry.Class name) = 7
-tag_of (entry.Text text) = 8
-tag_of (entry.FieldRef class pair) = 9
-tag_of (entry.MethodRef class pair) = 10
-tag_of (entry.InterfaceRef class pair) = 11
-tag_of (entry.Pair name descr) = 12
-tag_of (entry.Handle kind index) = 15
-tag_of (entry.MethodType descr) = 16
-tag_of (entry.Dynamic boot pair) = 17
-tag_of (entry.InvokeDynamic boot pair) = 18
-tag_of (entry.Module name) = 19
-tag_of (entry.Package name) = 20
-
-abbrev pub tag_in : Option Entry → ℕ
-tag_in None = 0
-tag_in (Some e) = tag_of e
-
--- the tag of the entry at an index, 0 where there is none
-abbrev pub tag_at : List Entry → ℕ → ℕ
-tag_at entries index = tag_in (slice_get entries index)
+use Rattle.fp_model.specs.Entries.{tag_at, text_at}
 
 -- the index, which stands at an offset, is that of an entry of the tag
 abbrev pub tagged : List Entry → (wanted at index : ℕ) → Result (Unit {0}) FileFault

@@ -1,5 +1,5 @@
 -- The bytes of a class file, part by part in the order of JVMS SE 21 section 4.1.
-use Rattle.std.specs.Prelude.{ℕ, List, [], ◌∷◌, ◌++◌, length, if◌then◌else◌}
+use Rattle.std.specs.Prelude.{ℕ, nat_lt, Bool, List, [], ◌∷◌, ◌++◌, length, if◌then◌else◌}
 use Rattle.std.specs.List.{flat_map}
 use Rattle.std.specs.Int.{to_be_bytes, w16, w32, w64}
 use Rattle.fp_model.specs.declared.raw.pool.Entry.{Entry}
@@ -21,6 +21,10 @@ u1 n = n ∷ []
 
 abbrev pub u2 : ℕ → List ℕ
 u2 n = to_be_bytes w16 n
+
+-- a number that two bytes spell
+abbrev pub is_u2 : ℕ → Bool
+is_u2 n = nat_lt n 65536
 
 abbrev pub u4 : ℕ → List ℕ
 u4 n = to_be_bytes w32 n

@@ -1,6 +1,6 @@
 -- Thin class files, which are those that are read so far: the constant pool has texts and classes alone, there is no
 -- method and no attribute, and the class is no module (JVMS SE 21 chapter 4).
-use Rattle.std.specs.Prelude.{ℕ, ◌-◌, ◌<◌, ◌^◌, ◌==◌, nat_le, nat_lt, Bool, true, false, ◌&&◌, ◌||◌, not, List, [], ◌∷◌, ◌++◌, length, codes, slice_get, unwrap_or, is_some, Option, Some, None, IsTrue, Result, Ok, Err, if◌then◌else◌}
+use Rattle.std.specs.Prelude.{ℕ, ◌-◌, ◌<◌, ◌^◌, ◌==◌, nat_le, nat_lt, Bool, true, false, ◌&&◌, ◌||◌, not, List, [], ◌∷◌, ◌++◌, length, codes, unwrap_or, is_some, IsTrue, Result, Ok, Err, if◌then◌else◌}
 use Rattle.std.specs.List.{list_all, list_any}
 use Rattle.std.specs.Str.{bytes_eq}
 use Rattle.std.specs.Int.{w8, w16, w32}
@@ -10,36 +10,10 @@ use Rattle.fp_model.specs.declared.raw.pool.Entry.TheVariants as entry
 use Rattle.fp_model.specs.declared.raw.pool.Pool.{Pool}
 use Rattle.fp_model.specs.declared.raw.RawMember.{RawMember}
 use Rattle.fp_model.specs.declared.raw.Raw.{Raw}
-use Rattle.fp_model.specs.Descriptor.{is_field_descriptor, is_class_text, is_array_like}
-use Rattle.fp_model.specs.Spelling.{spelled}
+use Rattle.fp_model.specs.Descriptor.{is_field_descriptor, is_class_text}
+use Rattle.fp_model.specs.Entries.{passes, text_at, class_name_at, is_class_index}
+use Rattle.fp_model.specs.Spelling.{is_u2, spelled}
 use Rattle.fp_model.specs.Reading.{unbuilt, demanded, number_at, bytes_at, many_at, counted_at, nothing_at, ◌>>=◌}
-
--- a number of two bytes
-abbrev pub is_u2 : ℕ → Bool
-is_u2 n = nat_lt n 65536
-
--- the test is passed by what is there
-abbrev pub passes : {A : Type 0} → (A → Bool) → Option A → Bool
-passes test None = false
-passes test (Some x) = test x
-
--- the text of an entry, where it is one
-abbrev pub text_in : Option Entry → Option (List ℕ)
-text_in (Some (entry.Utf8 text)) = Some text
-text_in _ = None
-
--- the text at an index
-abbrev pub text_at : List Entry → ℕ → Option (List ℕ)
-text_at entries index = text_in (slice_get entries index)
-
--- the name of the class that an entry stands for
-abbrev pub class_name_in : List Entry → Option Entry → Option (List ℕ)
-class_name_in entries (Some (entry.Class name)) = text_at entries name
-class_name_in entries _ = None
-
--- the name of the class at an index
-abbrev pub class_name_at : List Entry → ℕ → Option (List ℕ)
-class_name_at entries index = class_name_in entries (slice_get entries index)
 
 -- an entry of those that are read so far, whose number or length fits its two bytes
 abbrev pub is_thin_entry : Entry → Bool
@@ -69,10 +43,6 @@ has_thin_form raw =
 abbrev pub is_sound_entry : List Entry → Entry → Bool
 is_sound_entry entries (entry.Class name) = passes is_class_text (text_at entries name)
 is_sound_entry entries _ = true
-
--- the index is that of a class which is no array
-abbrev pub is_class_index : List Entry → ℕ → Bool
-is_class_index entries index = passes (λ name. not (is_array_like name)) (class_name_at entries index)
 
 -- the superclass: a class, or none for `java/lang/Object` (section 4.1)
 abbrev pub is_parent : List Entry → (this parent : ℕ) → Bool

@@ -8,6 +8,7 @@ mod fault;
 mod form;
 mod kind;
 mod limit;
+pub mod look_up;
 mod raw;
 pub mod reading;
 

@@ -1,6 +1,7 @@
-ghost use Rattle.std.specs.Prelude.{◌≡◌, ◌+◌, ◌^◌, ◌<◌, ◌≤◌, ◌↔◌, length, IsTrue};
+ghost use Rattle.std.specs.Prelude.{◌≡◌, ◌+◌, ◌^◌, ◌<◌, ◌≤◌, ◌↔◌, [], length, IsTrue};
 ghost use Rattle.std.specs.Int.{w8, w16, w32, w64};
-ghost use Rattle.fp_model.specs.Reading.{Gives, number_at, bytes_at};
+ghost use Rattle.fp_model.specs.Reading as reading;
+ghost use Rattle.fp_model.specs.Reading.{Gives, number_at, bytes_at, counted_at, many_at};
 
 use crate::FileFault;
 use sqlite_items::Items;
@@ -73,6 +74,48 @@ pub fn u64_at(bytes: &[u8], at: u32) -> Result<(u64, u32), FileFault>
         bytes[i + 7],
     ]);
     Ok((number, at + 8))
+}
+
+/// The offset behind so many bytes.
+#[tactic(auto, unfolding(crate::specs::Reading::behind))]
+pub fn behind(bytes: &[u8], at: u32, count: u32) -> Result<u32, FileFault>
+    requires { length bytes.now < 2 ^ 32 }
+    ensures { Gives result (reading.behind count bytes.now at) }
+{
+    if !lies(bytes, at, count) {
+        return Err(FileFault::Truncated { at });
+    }
+    Ok(at + count)
+}
+
+/// How many numbers of two bytes there are at an offset, each of them, and the offset after them.
+#[tactic(auto, unfolding(crate::specs::Reading::counted_at))]
+pub fn u16s_at(alloc: Global, bytes: &[u8], at: u32) -> Result<(Items<u16>, u32), FileFault>
+    requires { length bytes.now < 2 ^ 32 }
+    ensures { Gives result (counted_at (number_at w16 bytes.now) bytes.now at) }
+{
+    let (count, next) = u16_at(bytes, at)?;
+    many_u16s_at(alloc, bytes, next, count)
+}
+
+/// So many numbers of two bytes.
+fn many_u16s_at(
+    alloc: Global,
+    bytes: &[u8],
+    at: u32,
+    count: u16,
+) -> Result<(Items<u16>, u32), FileFault>
+    requires { length bytes.now < 2 ^ 32 }
+    ensures { Gives result (many_at (number_at w16 bytes.now) count [] at) }
+{
+    let mut numbers = Vec::new(alloc);
+    let mut next = at;
+    for _left in 0..count {
+        let (number, end) = u16_at(bytes, next)?;
+        numbers.push(number)?;
+        next = end;
+    }
+    Ok((Items::from_vec(numbers), next))
 }
 
 /// A copy of so many bytes at an offset, and the offset after them.

@@ -10,8 +10,8 @@ use Rattle.fp_model.specs.declared.raw.pool.Entry.TheVariants as entry
 use Rattle.fp_model.specs.Descriptor.{dimensions, is_array_like, is_class_text, is_element, is_field_descriptor, is_method_descriptor}
 use Rattle.fp_model.specs.NamedInstructions.{is_array_text, is_entry_text, member_at, member_in, member_with, MemberTexts}
 use Rattle.fp_model.specs.Reading.{demanded}
-use Rattle.fp_model.specs.References.{descr_at, descr_index_in, each_checked, entry_checked, handle_checked, holds_of, is_any, is_descriptor, member_checked, pair_checked, pair_described, suits_handle, tag_at, tag_in, tagged, text_checked, text_of_index}
-use Rattle.fp_model.specs.Thin.{class_name_at, class_name_in, passes, text_at, text_in}
+use Rattle.fp_model.specs.Entries.{tag_at, tag_in, class_name_at, class_name_in, passes, text_at, text_in}
+use Rattle.fp_model.specs.References.{descr_at, descr_index_in, each_checked, entry_checked, handle_checked, holds_of, is_any, is_descriptor, member_checked, pair_checked, pair_described, suits_handle, tagged, text_checked, text_of_index}
 use Rattle.fp_model.proofs.ArrayTypes.{dimensions-other, dimensions-replicate}
 use Rattle.fp_model.proofs.Readers.{opened, demanded-true}
 use Rattle.fp_model.specs.declared.raw.attribute.BootRow.{BootRow}

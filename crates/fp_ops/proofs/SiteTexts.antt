@@ -18,7 +18,7 @@ use Rattle.fp_model.specs.declared.raw.pool.Entry.TheVariants as entry
 use Rattle.fp_model.specs.Descriptor.{is_kind, kind_text, result_text, IsDescrOf}
 use Rattle.fp_model.specs.NamedInstructions.{member_at, IsOf}
 use Rattle.fp_model.specs.Taking.{Taken}
-use Rattle.fp_model.specs.Thin.{text_at}
+use Rattle.fp_model.specs.Entries.{text_at}
 use Rattle.fp_model.proofs.LongerTables.{Keeps, IsKindOf-kept}
 use Rattle.fp_model.proofs.Taking.{taken_last, taken_ok, taken_stop}
 use Rattle.fp_ops.specs.CallSites.{handle_with, HandleTexts, IsArgOf, IsBootRef, IsHandleArg, IsTypeArg}

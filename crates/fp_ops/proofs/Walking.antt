@@ -7,7 +7,7 @@ use Rattle.std.specs.List.{flat_map, list_all}
 use Rattle.fp_model.specs.declared.fault.FileFault.{FileFault}
 use Rattle.fp_model.specs.declared.raw.attribute.RawIns.{RawIns}
 use Rattle.fp_model.specs.Spelling.{spelled_ins}
-use Rattle.fp_model.specs.Thin.{passes}
+use Rattle.fp_model.specs.Entries.{passes}
 use Rattle.fp_model.specs.Branches.{far_target, far_targets, starts_at}
 use Rattle.fp_model.specs.References.{each_checked}
 use Rattle.fp_ops.specs.Marks.{is_marked}

@@ -10,7 +10,7 @@ use Rattle.fp_model.specs.declared.raw.attribute.BootRow.{BootRow}
 use Rattle.fp_model.specs.declared.raw.pool.Entry.{Entry}
 use Rattle.fp_model.specs.declared.raw.pool.Entry.TheVariants as entry
 use Rattle.fp_model.specs.Descriptor.{descr_names, is_method_descriptor, IsDescrOf}
-use Rattle.fp_model.specs.Thin.{passes, text_at}
+use Rattle.fp_model.specs.Entries.{passes, text_at}
 use Rattle.fp_model.specs.NamedInstructions.{is_entry_text, member_at, texts_by, IsMember, IsOf, MemberTexts}
 
 -- ---- method handles (section 4.4.8)

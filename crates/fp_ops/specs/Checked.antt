@@ -8,8 +8,8 @@ use Rattle.fp_model.specs.Decoding.{constant_words}
 use Rattle.fp_model.specs.Descriptor.{is_array_like, is_class_text, is_field_descriptor, is_method_descriptor}
 use Rattle.fp_model.specs.Instructions.{entry_instr}
 use Rattle.fp_model.specs.NamedInstructions.{is_array_text, is_entry_text, member_at}
-use Rattle.fp_model.specs.References.{entries_checked, tag_at}
-use Rattle.fp_model.specs.Thin.{class_name_at, passes}
+use Rattle.fp_model.specs.Entries.{tag_at, class_name_at, passes}
+use Rattle.fp_model.specs.References.{entries_checked}
 use Rattle.fp_ops.specs.CallSites.{is_sound_site_at}
 
 -- a text whose length has two bytes (section 4.4.7)

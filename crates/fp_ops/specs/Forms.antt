@@ -9,7 +9,7 @@ use Rattle.fp_model.specs.Descriptor.{is_method_descriptor}
 use Rattle.fp_model.specs.Instructions.{found, plain_instr}
 use Rattle.fp_model.specs.NamedInstructions.{call_texts, is_call_op, is_class_op, is_entry_text, is_field_op, is_named_sound, member_at, named_texts, texts_by, IsCallAt, IsNamedInstr, IsOf}
 use Rattle.fp_model.specs.Reading.{number_at}
-use Rattle.fp_model.specs.Thin.{passes}
+use Rattle.fp_model.specs.Entries.{passes}
 use Rattle.fp_ops.specs.CallSites.{is_sound_site_at, site_texts_at, IsSiteAt}
 
 -- the index that the operands begin with

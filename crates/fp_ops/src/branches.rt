@@ -4,7 +4,7 @@ ghost use Rattle.std.specs.Int.{w16, w32};
 ghost use Rattle.std.specs.List.{flat_map, list_all};
 ghost use Rattle.fp_model.specs.Reading.{Gives, number_at};
 ghost use Rattle.fp_model.specs.Spelling.{spelled_ins};
-ghost use Rattle.fp_model.specs.Thin.{passes};
+ghost use Rattle.fp_model.specs.Entries.{passes};
 ghost use Rattle.fp_model.specs.Form.{form_of};
 ghost use Rattle.fp_model.specs.Branches.{far_target, far_targets, leads_to, moved, near_target, starts_at, targets_checked, targets_of};
 ghost use Rattle.fp_ops.specs.Marks.{is_marked};
@@ -35,7 +35,7 @@ fn total_size(code: &[RawIns]) -> u32
 }
 
 /// Which places are those where an instruction begins.
-fn starts(alloc: Global, code: &[RawIns]) -> Result<Vec<bool>, AllocError>
+pub fn starts(alloc: Global, code: &[RawIns]) -> Result<Vec<bool>, AllocError>
     requires { length (flat_map spelled_ins code.now) < 2 ^ 32 }
     ensures { IfOk result (λ marks. (place : ℕ) → is_marked marks.items place ≡ starts_at 0 code.now place) }
 {

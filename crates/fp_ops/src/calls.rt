@@ -2,7 +2,7 @@
 ghost use Rattle.std.specs.Prelude.{◌≡◌, ◌^◌, ◌<◌, ℕ, List, [], ◌∷◌, length, true, IfOk};
 ghost use Rattle.fp_model.specs.Descriptor.{descr_names, is_method_descriptor, IsDescrOf};
 ghost use Rattle.fp_model.specs.Taking.{Taken};
-ghost use Rattle.fp_model.specs.Thin.{passes};
+ghost use Rattle.fp_model.specs.Entries.{passes};
 ghost use Rattle.fp_model.specs.NamedInstructions.{call_texts, is_call_op, is_entry_text, member_at, texts_by, IsCallAt, IsCallInstr, IsMember, MemberTexts};
 
 use crate::named::{Member, Numbers, number_all, texts_of};

@@ -5,7 +5,7 @@ ghost use Rattle.fp_model.specs.Descriptor.{is_method_descriptor};
 ghost use Rattle.fp_model.specs.Instructions as instructions;
 ghost use Rattle.fp_model.specs.NamedInstructions.{call_texts, is_call_op, is_entry_text, is_named_sound, member_at, named_texts, texts_by, IsCallAt, IsNamedInstr, IsOf};
 ghost use Rattle.fp_model.specs.Taking.{Taken};
-ghost use Rattle.fp_model.specs.Thin.{passes};
+ghost use Rattle.fp_model.specs.Entries.{passes};
 ghost use Rattle.fp_ops.specs.CallSites.{is_sound_site_at, site_texts_at, IsSiteAt};
 ghost use Rattle.fp_ops.specs.Forms.{dims_in, index_in, instr_texts, is_named_op, is_site_op, is_sound_ins, takes_names, IsInstrOf};
 

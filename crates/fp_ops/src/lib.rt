@@ -16,7 +16,7 @@ mod sites;
 mod soundness;
 mod switches;
 
-pub use branches::check_targets;
+pub use branches::{check_targets, starts};
 pub use forms::operands_of;
 pub use instr::to_instr;
 pub use law::law_pool_gives_forms;

@@ -2,12 +2,12 @@
 ghost use Rattle.std.specs.Prelude.{◌≡◌, ◌^◌, ◌<◌, ◌≤◌, ℕ, List, [], ◌∷◌, length, drop, slice_get, is_some, true, IfOk, IfNone, IfSome};
 ghost use Rattle.fp_model.specs.Descriptor.{is_array_like, is_class_text, is_field_descriptor, kind_names, IsKindOf};
 ghost use Rattle.fp_model.specs.Interning.{Interned};
-ghost use Rattle.fp_model.specs.Thin.{class_name_at, passes};
+ghost use Rattle.fp_model.specs.Entries.{class_name_at, passes};
 ghost use Rattle.fp_model.specs.NamedInstructions.{class_kind_names, field_texts, is_array_text, is_class_op, is_entry_text, is_field_op, is_named_sound, member_at, named_texts, texts_by, IsArrayAt, IsClassAt, IsFieldAt, IsMultiArrayAt, IsArrayInstr, IsClassInstr, IsClassKind, IsFieldInstr, IsMember, IsMultiArrayInstr, IsNamedInstr, MemberTexts};
 ghost use Rattle.fp_model.specs.NamedInstructions as instructions;
 
-use crate::constants::{class_name, text};
 use fp_base::{NameFault, Names};
+use fp_model::look_up::{class_name, text};
 use fp_model::{DescrFault, Entry, Instr, Kind, read_kind};
 use sqlite_items::at;
 use std::alloc::Global;

@@ -4,7 +4,8 @@ ghost use Rattle.fp_model.specs.Reading.{Gives};
 ghost use Rattle.fp_model.specs.Decoding as decoding;
 
 use crate::{constants, switches};
-use fp_model::reading::{u8_at, u16_at};
+use fp_model::look_up::{self, CLASS, INTERFACE_METHOD, INVOKE_DYNAMIC, is_class};
+use fp_model::reading::{behind, u8_at, u16_at};
 use fp_model::{Entry, FileFault, Form};
 
 /// The opcode of `ret`.
@@ -14,18 +15,6 @@ const RET: u8 = 169;
 const FIRST_TYPE: u8 = 4;
 
 const LAST_TYPE: u8 = 11;
-
-/// The offset behind so many bytes.
-#[tactic(auto, unfolding(fp_model::specs::Decoding::behind))]
-fn behind(bytes: &[u8], at: u32, count: u8) -> Result<u32, FileFault>
-    requires { length bytes.now < 2 ^ 32 }
-    ensures { Gives result (decoding.behind count bytes.now at) }
-{
-    if at as u64 + count as u64 > bytes.len() as u64 {
-        return Err(FileFault::Truncated { at });
-    }
-    Ok(at + count as u32)
-}
 
 /// Whether a local and its words lie in the frame.
 fn is_within(max_locals: u16, local: u16, words: u8) -> bool
@@ -102,7 +91,7 @@ fn refers_end(
     ensures { Gives result (decoding.refers_end entries.now tag or_tag bytes.now at) }
 {
     let (index, end) = u16_at(bytes, at)?;
-    let found = constants::tag(entries, index);
+    let found = look_up::tag(entries, index);
     if found != tag && found != or_tag {
         return Err(FileFault::Index { at, index });
     }
@@ -125,7 +114,7 @@ fn invoke_interface_end(
     if last != 0 {
         return Err(FileFault::Bounds { at: op_at });
     }
-    if constants::tag(entries, index) != constants::INTERFACE_METHOD {
+    if look_up::tag(entries, index) != INTERFACE_METHOD {
         return Err(FileFault::Index { at, index });
     }
     Ok(end)
@@ -147,7 +136,7 @@ fn invoke_dynamic_end(
     if third != 0 || last != 0 {
         return Err(FileFault::Bounds { at: op_at });
     }
-    if constants::tag(entries, index) != constants::CALL_SITE {
+    if look_up::tag(entries, index) != INVOKE_DYNAMIC {
         return Err(FileFault::Index { at, index });
     }
     Ok(end)
@@ -159,7 +148,7 @@ fn new_end(entries: &[Entry], bytes: &[u8], at: u32) -> Result<u32, FileFault>
     ensures { Gives result (decoding.new_end entries.now bytes.now at) }
 {
     let (index, end) = u16_at(bytes, at)?;
-    if !constants::is_class(entries, index) {
+    if !is_class(entries, index) {
         return Err(FileFault::Index { at, index });
     }
     Ok(end)
@@ -192,7 +181,7 @@ fn multi_new_array_end(
     if dims == 0 || !constants::has_dimensions(entries, index, dims) {
         return Err(FileFault::Bounds { at: op_at });
     }
-    if constants::tag(entries, index) != constants::CLASS {
+    if look_up::tag(entries, index) != CLASS {
         return Err(FileFault::Index { at, index });
     }
     Ok(end)
@@ -219,7 +208,7 @@ pub fn operands_end(
         }),
         Form::Subroutine => Err(FileFault::Subroutine { at: op_at }),
         Form::Plain => Ok(at),
-        Form::Push(size) | Form::Branch(size) => behind(bytes, at, size),
+        Form::Push(size) | Form::Branch(size) => behind(bytes, at, size as u32),
         Form::Local(words) => local_end(max_locals, op_at, words, bytes, at),
         Form::Near { local, words } => {
             if is_within(max_locals, local as u16, words) {

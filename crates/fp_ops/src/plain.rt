@@ -6,11 +6,11 @@ ghost use Rattle.fp_model.specs.Reading.{number_at};
 ghost use Rattle.fp_model.specs.Branches.{far_target, near_target};
 ghost use Rattle.fp_model.specs.References.{descr_at};
 ghost use Rattle.fp_model.specs.Descriptor.{is_among};
-ghost use Rattle.fp_model.specs.Thin.{text_at};
+ghost use Rattle.fp_model.specs.Entries.{text_at};
 ghost use Rattle.fp_model.specs.Instructions as instructions;
 
 use crate::branches::{far, near};
-use crate::constants::text;
+use fp_model::look_up::text;
 use fp_model::{Entry, Instr, Kind, RawIns, Sort};
 use sqlite_items::at;
 

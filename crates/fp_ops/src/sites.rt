@@ -2,16 +2,16 @@
 ghost use Rattle.std.specs.Prelude.{◌≡◌, ◌^◌, ◌<◌, ℕ, List, [], ◌∷◌, length, slice_get, true, is_some, IfOk, IfNone, IfSome};
 ghost use Rattle.std.specs.List.{list_all, flat_map, AllZip};
 ghost use Rattle.fp_model.specs.Taking.{Taken};
-ghost use Rattle.fp_model.specs.Thin.{text_at, passes};
+ghost use Rattle.fp_model.specs.Entries.{text_at, passes};
 ghost use Rattle.fp_model.specs.Descriptor.{descr_names, is_method_descriptor, IsDescrOf};
 ghost use Rattle.fp_model.specs.NamedInstructions.{is_entry_text, member_at, texts_by, IsOf};
 ghost use Rattle.fp_ops.specs.CallSites.{arg_texts_at, arg_texts_of, handle_texts, handle_with, is_sound_arg_at, is_sound_arg_of, is_sound_site, is_sound_site_at, site_by, site_texts, site_texts_at, site_with, IsArgAt, IsArgOf, IsBootRef, IsHandleArg, IsSiteAt, IsSiteInstr, IsTypeArg};
 ghost use Rattle.fp_ops.specs.CallSites as sites;
 
 use crate::calls::method_kinds;
-use crate::constants::text;
 use crate::named::{Member, number, number_all, texts_of};
 use fp_base::{NameFault, Names};
+use fp_model::look_up::text;
 use fp_model::{BootArg, BootRef, BootRow, Entry, Instr};
 use sqlite_items::{Items, at};
 use std::alloc::Global;

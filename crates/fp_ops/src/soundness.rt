@@ -6,15 +6,15 @@ ghost use Rattle.fp_model.specs.Descriptor.{is_field_descriptor, is_method_descr
 ghost use Rattle.fp_model.specs.Instructions as instructions;
 ghost use Rattle.fp_model.specs.NamedInstructions as named;
 ghost use Rattle.fp_model.specs.NamedInstructions.{is_entry_text, member_at};
-ghost use Rattle.fp_model.specs.Thin.{class_name_at, passes, text_at};
+ghost use Rattle.fp_model.specs.Entries.{class_name_at, passes, text_at};
 ghost use Rattle.fp_ops.specs.CallSites.{is_sound_arg_at, is_sound_site, is_sound_site_at};
 ghost use Rattle.fp_ops.specs.Forms.{index_in, is_sound_ins};
 
-use crate::constants::{class_name, text};
 use crate::instr::{INVOKE_DYNAMIC, index_of, is_call, is_named};
 use crate::jumps::plain_instr;
 use crate::named::texts_of;
 use crate::sites::site_at;
+use fp_model::look_up::{class_name, text};
 use fp_model::{BootRow, Entry, Pool, RawIns, is_descr, is_kind};
 use sqlite_items::at;
 use std::alloc::{AllocError, Global};

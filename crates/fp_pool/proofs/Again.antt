@@ -12,9 +12,9 @@ use Rattle.fp_model.specs.declared.raw.pool.Entry.TheVariants as entry
 use Rattle.fp_model.specs.declared.raw.pool.Pool.{Pool}
 use Rattle.fp_model.specs.Pool.{handle_at, index_entry_at, is_wide, is_wide_tag, one_at, pair_entry_at, pool_at, slot_at, slots_at, tagged_at, text_entry_at, two_at, two_numbers_at}
 use Rattle.fp_model.specs.Reading.{demanded, number_at, bytes_at, Takes}
-use Rattle.fp_model.specs.References.{checked_pool_at, entries_checked, tag_of}
-use Rattle.fp_model.specs.Spelling.{u1, u2, u4, u8, spelled_entry, spelled_pool}
-use Rattle.fp_model.specs.Thin.{is_u2}
+use Rattle.fp_model.specs.Entries.{tag_of}
+use Rattle.fp_model.specs.References.{checked_pool_at, entries_checked}
+use Rattle.fp_model.specs.Spelling.{u1, u2, u4, u8, spelled_entry, spelled_pool, is_u2}
 use Rattle.fp_model.proofs.Takes.{Takes-first, Takes-rest, Takes-room, Takes-split, Takes-text}
 use Rattle.fp_model.proofs.Readers.{stepped, demanded-Ok, reads_u2, u1_again, u4_again, bytes_again}
 use Rattle.fp_pool.specs.Form.{fits, is_slot, are_slots, has_form}

@@ -12,7 +12,7 @@ use Rattle.fp_model.specs.declared.raw.pool.Entry.TheVariants as entry
 use Rattle.fp_model.specs.declared.raw.pool.Pool.{Pool}
 use Rattle.fp_model.specs.Pool.{handle_at, index_entry_at, is_wide, is_wide_tag, one_at, pair_entry_at, pool_at, slot_at, slots_at, tagged_at, text_entry_at, two_at, two_numbers_at}
 use Rattle.fp_model.specs.Reading.{◌>>=◌, demanded, number_at, bytes_at, Gives}
-use Rattle.fp_model.specs.Thin.{is_u2}
+use Rattle.fp_model.specs.Spelling.{is_u2}
 use Rattle.fp_model.proofs.Readers.{opened, demanded-true, IsBytes, reads_u2, bytes_takes}
 use Rattle.fp_pool.specs.Form.{is_u4, is_u8, fits, is_slot, are_slots, has_form}
 use Rattle.fp_pool.proofs.Spelled.{either}

@@ -3,7 +3,7 @@ use Rattle.std.proofs.Common.{◌≡◌, ℕ, zero, suc, List, [], ◌∷◌, Op
 use Rattle.std.specs.List.{slice_get}
 use Rattle.std.specs.Option.{unwrap_or, option_map}
 use Rattle.fp_model.specs.declared.raw.pool.Entry.{Entry}
-use Rattle.fp_model.specs.Thin.{text_at}
+use Rattle.fp_model.specs.Entries.{text_at}
 use Rattle.fp_pool.specs.Sorts.{sort_marks, sorts_of}
 use Rattle.fp_pool.specs.declared.sorts.Sorts.{Sorts}
 

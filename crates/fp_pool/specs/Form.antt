@@ -4,7 +4,7 @@ use Rattle.fp_model.specs.declared.raw.pool.Entry.{Entry}
 use Rattle.fp_model.specs.declared.raw.pool.Entry.TheVariants as entry
 use Rattle.fp_model.specs.declared.raw.pool.Pool.{Pool}
 use Rattle.fp_model.specs.Pool.{is_wide}
-use Rattle.fp_model.specs.Thin.{is_u2}
+use Rattle.fp_model.specs.Spelling.{is_u2}
 
 -- numbers of four and of eight bytes
 abbrev pub is_u4 : ℕ → Bool

@@ -2,7 +2,7 @@
 use Rattle.std.specs.Prelude.{ℕ, List, Option, Some, map, option_map}
 use Rattle.fp_model.specs.declared.raw.pool.Entry.{Entry}
 use Rattle.fp_model.specs.Descriptor.{is_field_descriptor, is_method_descriptor}
-use Rattle.fp_model.specs.Thin.{text_in}
+use Rattle.fp_model.specs.Entries.{text_in}
 use Rattle.fp_pool.specs.declared.sorts.Sorts.{Sorts}
 
 -- what a text is

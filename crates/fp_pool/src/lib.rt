@@ -4,7 +4,6 @@
 mod cut;
 mod entry;
 mod laws;
-mod look_up;
 mod reader;
 mod references;
 mod sorts;

@@ -4,7 +4,7 @@ ghost use Rattle.std.specs.List.{flat_map};
 ghost use Rattle.fp_model.specs.Reading.{Gives};
 ghost use Rattle.fp_model.specs.References as format;
 ghost use Rattle.fp_model.specs.Spelling.{spelled_entry};
-ghost use Rattle.fp_model.specs.Thin.{text_at};
+ghost use Rattle.fp_model.specs.Entries.{text_at};
 ghost use Rattle.fp_pool.specs.Sorts.{sort_marks};
 
 mod descriptors;

@@ -1,6 +1,6 @@
 //! Which texts of a constant pool are descriptors, each text read once.
 ghost use Rattle.std.specs.Prelude.{◌≡◌, None, map, option_map, slice_get, unwrap_or, IfOk};
-ghost use Rattle.fp_model.specs.Thin.{text_at};
+ghost use Rattle.fp_model.specs.Entries.{text_at};
 ghost use Rattle.fp_pool.specs.Sorts as spec;
 
 use fp_model::{Entry, is_descr, is_kind};

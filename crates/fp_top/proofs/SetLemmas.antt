@@ -11,7 +11,9 @@ use Rattle.fp_model.specs.declared.raw.Raw.{Raw}
 use Rattle.fp_model.specs.declared.raw.RawMember.{RawMember}
 use Rattle.fp_model.specs.declared.raw.pool.Entry.{Entry}
 use Rattle.fp_model.specs.Descriptor.{dimensions, element_names}
-use Rattle.fp_model.specs.Thin.{text_at, class_name_at, has_thin_form, is_u2, is_thin_pool}
+use Rattle.fp_model.specs.Entries.{text_at, class_name_at}
+use Rattle.fp_model.specs.Spelling.{is_u2}
+use Rattle.fp_model.specs.Thin.{has_thin_form, is_thin_pool}
 use Rattle.fp_model.specs.Classes.{IsClassOf, IsFieldOf, class_in, raw_names, field_names}
 use Rattle.fp_model.specs.ClassSet.{SetView, AreFew, refusal_of}
 use Rattle.fp_model.proofs.OneClass.{one_class}

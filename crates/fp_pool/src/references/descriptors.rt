@@ -2,12 +2,12 @@
 ghost use Rattle.std.specs.Prelude.{◌≡◌, not, option_map};
 ghost use Rattle.fp_model.specs.Descriptor.{is_array_like, is_class_text, is_field_descriptor, is_method_descriptor};
 ghost use Rattle.fp_model.specs.References.{holds_of, descr_at, is_descriptor};
-ghost use Rattle.fp_model.specs.Thin.{text_at};
+ghost use Rattle.fp_model.specs.Entries.{text_at};
 ghost use Rattle.fp_pool.specs.Sorts.{sort_marks, sorts_of};
 
-use crate::look_up::{descr_index, text};
 use crate::sorts::{Sorts, sorts_at};
 use fp_model::Entry;
+use fp_model::look_up::{descr_index, text};
 
 /// Whether a text begins like an array type.
 fn is_array(text: &[u8]) -> bool

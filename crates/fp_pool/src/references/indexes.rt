@@ -2,28 +2,10 @@
 ghost use Rattle.std.specs.Prelude.{◌≡◌, ◌+◌, ◌^◌, ◌<◌, ℕ, Bool, List};
 ghost use Rattle.fp_model.specs.Reading.{Gives};
 ghost use Rattle.fp_model.specs.References as format;
-ghost use Rattle.fp_model.specs.Thin.{text_at};
+ghost use Rattle.fp_model.specs.Entries.{text_at};
 
-use crate::look_up::tag;
+use fp_model::look_up::{CLASS, FIELD, INTERFACE_METHOD, METHOD, NAME_AND_TYPE, UTF8, tag};
 use fp_model::{Entry, FileFault};
-
-/// The tag of a text (JVMS SE 21 table 4.4-A).
-const UTF8: u8 = 1;
-
-/// The tag of a class.
-const CLASS: u8 = 7;
-
-/// The tag of a reference to a field.
-const FIELD: u8 = 9;
-
-/// The tag of a reference to a method of a class.
-const METHOD: u8 = 10;
-
-/// The tag of a reference to a method of an interface.
-const INTERFACE_METHOD: u8 = 11;
-
-/// The tag of a name and type.
-const NAME_AND_TYPE: u8 = 12;
 
 /// Checks that an index, which stands at an offset, is that of an entry of the tag.
 fn check_tag(entries: &[Entry], wanted: u8, at: u32, index: u16) -> Result<(), FileFault>

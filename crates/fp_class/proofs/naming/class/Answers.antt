@@ -4,7 +4,7 @@ use Rattle.std.specs.List.{flat_map}
 use Rattle.std.specs.Option.{option_to_list}
 use Rattle.fp_model.specs.Classes.{field_names}
 use Rattle.fp_model.specs.Descriptor.{is_array_like}
-use Rattle.fp_model.specs.Thin.{class_name_at}
+use Rattle.fp_model.specs.Entries.{class_name_at}
 use Rattle.fp_model.specs.Interning.{Interned}
 use Rattle.fp_class.proofs.Conditions.{sound_of, passes-is_some}
 use Rattle.fp_class.proofs.NamedParts.{class_over, texts_whole}

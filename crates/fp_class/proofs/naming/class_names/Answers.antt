@@ -3,7 +3,7 @@ use Rattle.std.proofs.lemmas.List.{get_or_default, take_more}
 use Rattle.std.proofs.lemmas.Result.{err_from_is_err_and}
 use Rattle.std.specs.List.{flat_map}
 use Rattle.std.specs.Option.{option_to_list}
-use Rattle.fp_model.specs.Thin.{class_name_at}
+use Rattle.fp_model.specs.Entries.{class_name_at}
 use Rattle.fp_class.specs.Interning.{IsClassName}
 use Rattle.fp_class.proofs.NamedParts.{AllZip-to, AllZip-more, IsClassName-kept}
 use Rattle.fp_model.proofs.Interned.{interned_lost, kept_by}

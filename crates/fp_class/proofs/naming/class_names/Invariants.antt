@@ -2,7 +2,7 @@ use Rattle.std.proofs.Common.{◌≡◌, take}
 use Rattle.std.specs.List.{flat_map, AllZip}
 use Rattle.std.specs.Option.{option_to_list}
 use Rattle.fp_base.specs.Names.{with_names}
-use Rattle.fp_model.specs.Thin.{class_name_at}
+use Rattle.fp_model.specs.Entries.{class_name_at}
 use Rattle.fp_class.specs.Interning.{IsClassName}
 use Rattle.fp_class.specs.Memos.{IsMemo}
 use Rattle.fp_class.proofs.naming.class_names.Given as goal

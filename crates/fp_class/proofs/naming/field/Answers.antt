@@ -2,7 +2,7 @@ use Rattle.std.proofs.Common.{[], ◌∷◌, Err}
 use Rattle.std.proofs.lemmas.Result.{err_from_is_err_and}
 use Rattle.std.specs.Option.{unwrap_or}
 use Rattle.fp_model.specs.Descriptor.{kind_names}
-use Rattle.fp_model.specs.Thin.{text_at}
+use Rattle.fp_model.specs.Entries.{text_at}
 use Rattle.fp_class.proofs.NamedParts.{field_named}
 use Rattle.fp_model.proofs.Interned.{after_one, interned_then, interned_as, kept_by}
 use Rattle.fp_class.proofs.naming.field.Goals as goal

@@ -1,6 +1,6 @@
 use Rattle.std.proofs.Common.{[], ◌∷◌, sym}
 use Rattle.std.specs.Option.{unwrap_or}
-use Rattle.fp_model.specs.Thin.{text_at}
+use Rattle.fp_model.specs.Entries.{text_at}
 use Rattle.fp_class.proofs.Memos.{number_told, number_interned, number_within, number_noted}
 use Rattle.fp_class.proofs.naming.text.Goals as goal
 

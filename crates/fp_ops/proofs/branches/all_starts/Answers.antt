@@ -1,7 +1,7 @@
 use Rattle.std.proofs.Common.{◌≡◌, true, false, ◌∙◌, sym, ap, arith}
 use Rattle.std.specs.List.{list_all}
 use Rattle.fp_model.specs.Branches.{far_target}
-use Rattle.fp_model.specs.Thin.{passes}
+use Rattle.fp_model.specs.Entries.{passes}
 use Rattle.fp_ops.specs.Marks.{is_marked}
 use Rattle.fp_ops.proofs.Walking.{far_targets-next, far_targets-end, and_true, and_false}
 use Rattle.fp_ops.proofs.branches.all_starts.Goals as goal

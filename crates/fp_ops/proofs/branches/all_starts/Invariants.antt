@@ -1,7 +1,7 @@
 use Rattle.std.proofs.Common.{◌≡◌, ◌+◌, ◌*◌, ◌-◌}
 use Rattle.std.specs.List.{list_all}
 use Rattle.fp_model.specs.Branches.{far_targets}
-use Rattle.fp_model.specs.Thin.{passes}
+use Rattle.fp_model.specs.Entries.{passes}
 use Rattle.fp_ops.specs.Marks.{is_marked}
 use Rattle.fp_ops.proofs.branches.all_starts.Given as goal
 
