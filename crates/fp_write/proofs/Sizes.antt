@@ -1,5 +1,5 @@
 -- How many bytes so many of one size take.
-use Rattle.std.proofs.Common.{◌≡◌, ℕ, ◌*◌, List, [], ◌∷◌, length, refl, arith, length-append}
+use Rattle.std.proofs.Common.{◌≡◌, ℕ, ◌*◌, List, [], ◌∷◌, length, refl, arith}
 use Rattle.std.specs.List.{flat_map}
 use Rattle.fp_model.specs.declared.raw.attribute.CatchRow.{CatchRow}
 use Rattle.fp_model.specs.Spelling.{u2, spelled_row}

@@ -28,7 +28,8 @@ fn put_attribute(out: &mut Vec<u8>, attribute: &RawAttr) -> Result<(), AllocErro
 
 /// What an attribute holds, behind its length.
 fn put_body(out: &mut Vec<u8>, body: &RawBody) -> Result<(), AllocError>
-    ensures { OnOk result (out.new.items ≡ out.old.items ++ (u4 (length (body_bytes body.now)) ++ body_bytes body.now)) }
+    ensures { OnOk result
+        (out.new.items ≡ out.old.items ++ (u4 (length (body_bytes body.now)) ++ body_bytes body.now)) }
 {
     match body {
         RawBody::Bytes(bytes) => put_bytes(out, bytes.as_slice()),
@@ -44,7 +45,8 @@ fn put_body(out: &mut Vec<u8>, body: &RawBody) -> Result<(), AllocError>
 /// The rows of `BootstrapMethods`, behind their length (section 4.7.23).
 #[tactic(auto, using(crate::proofs::Low::u4_low))]
 fn put_boot(out: &mut Vec<u8>, rows: &[BootRow]) -> Result<(), AllocError>
-    ensures { OnOk result (out.new.items ≡ out.old.items ++ (u4 (length (counted spelled_boot rows.now)) ++ counted spelled_boot rows.now)) }
+    ensures { OnOk result
+        (out.new.items ≡ out.old.items ++ (u4 (length (counted spelled_boot rows.now)) ++ counted spelled_boot rows.now)) }
 {
     put_u32(out, size_of_boot_rows(rows))?;
     put_boot_rows(out, rows)

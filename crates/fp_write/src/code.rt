@@ -13,7 +13,8 @@ const WIDE: u8 = 196;
 
 /// What a `Code` attribute holds, behind its length (section 4.7.3).
 pub fn put_code(out: &mut Vec<u8>, code: &RawCode) -> Result<(), AllocError>
-    ensures { OnOk result (out.new.items ≡ out.old.items ++ (u4 (length (code_bytes code.now)) ++ code_bytes code.now)) }
+    ensures { OnOk result
+        (out.new.items ≡ out.old.items ++ (u4 (length (code_bytes code.now)) ++ code_bytes code.now)) }
 {
     let instructions = size_of_instructions(code.code.as_slice());
     put_u32(out, size_of_code(code, instructions))?;

@@ -10,3 +10,6 @@ mod speller;
 mod unread;
 
 pub use speller::spell;
+
+#[cfg(test)]
+mod tests;
