@@ -5,3 +5,5 @@ mod Places
 mod NamedParts
 mod SiteTexts
 mod Referred
+mod AskedOperands
+mod ShortTargets

@@ -15,7 +15,7 @@ use Rattle.fp_model.specs.Decoding.{operands_end, wide_end, padding_len, plain_a
 use Rattle.fp_model.proofs.Takes.{Takes, Takes-then}
 use Rattle.fp_model.proofs.Readers.{opened, u1_takes, bytes_takes}
 
-ok_is : {A : Type 0} (a b : A) → (let given : Result A FileFault = Ok a in given) ≡ Ok b → a ≡ b
+pub ok_is : {A : Type 0} (a b : A) → (let given : Result A FileFault = Ok a in given) ≡ Ok b → a ≡ b
 ok_is a b e = cc
 
 -- ---- one instruction
