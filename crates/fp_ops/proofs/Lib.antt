@@ -7,3 +7,4 @@ mod SiteTexts
 mod Referred
 mod AskedOperands
 mod ShortTargets
+mod GivenForms

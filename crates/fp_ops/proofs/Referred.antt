@@ -57,7 +57,7 @@ holds_any : (o : Option (List ℕ)) → holds_of is_any o ≡ true
 holds_any None = refl
 holds_any (Some text) = refl
 
-passes_some : {A : Type 0} (test : A → Bool) (o : Option A) → passes test o ≡ true → is_some o ≡ true
+pub passes_some : {A : Type 0} (test : A → Bool) (o : Option A) → passes test o ≡ true → is_some o ≡ true
 passes_some test None is = absurd (cc)
 passes_some test (Some x) is = refl
 
