@@ -25,7 +25,7 @@ use Rattle.fp_model.specs.References.{holds_of}
 use Rattle.fp_ops.specs.CallSites.{is_sound_site_at}
 use Rattle.fp_ops.specs.Checked.{GivesForms}
 use Rattle.fp_ops.specs.Forms.{index_in, is_named_op, is_site_op, is_sound_ins, takes_names}
-use Rattle.fp_ops.proofs.AskedOperands.{asked, is_asked}
+use Rattle.fp_ops.proofs.AskedOperands.{asked, is_asked, local_width}
 use Rattle.fp_ops.proofs.Referred.{passes_some}
 use Rattle.fp_ops.proofs.ShortTargets.{far_there, is_short, near_there, passes_weaker, places_there}
 
@@ -86,6 +86,9 @@ some_first (Some x) p is = refl
 some_second : {A : Type 0} (o p : Option A) → is_some p ≡ true → is_some (option_or o p) ≡ true
 some_second None p is = is
 some_second (Some x) p is = refl
+
+false_true : false ≡ true → ⊥
+false_true is = absurd (cc)
 
 either : (b : Bool) → (b || b) ≡ true → b ≡ true
 either true is = refl
@@ -312,3 +315,93 @@ module _ (entries : List Entry) (boots : List BootRow) (given : GivesForms entri
 
   type_sound : (op index : ℕ) → 192 ≤ op → op < 194 → ((tag_at entries index == 7) || (tag_at entries index == 7)) ≡ true → is_named_sound entries op index ≡ true
   type_sound op index le lt tag = class_sound op index (omega (arith, le)) (type_class op le lt) (passes_some _ (class_name_at entries index) (class_there index tag))
+
+  -- ---- by the form
+
+  module _ (pc : ℕ) (ins : RawIns) where
+    plain_sound : takes_names ins.op ≡ false → is_some (plain_instr entries pc ins) ≡ true → is_sound_ins entries boots pc ins ≡ true
+    plain_sound none there =
+        let names = or_parts (is_named_op ins.op) (is_call_op ins.op || is_site_op ins.op) none in
+        let calls = or_parts (is_call_op ins.op) (is_site_op ins.op) names.1 in
+        cond-false (is_named_op ins.op) _ _ names.0 ∙ cond-false (is_call_op ins.op) _ _ calls.0 ∙ cond-false (is_site_op ins.op) _ _ calls.1 ∙ there
+
+    by_fixed : takes_names ins.op ≡ false → is_some (fixed_instr ins.op) ≡ true → is_sound_ins entries boots pc ins ≡ true
+    by_fixed none there = plain_sound none (some_first (fixed_instr ins.op) _ there)
+
+    by_operands : takes_names ins.op ≡ false → is_some (operand_instr pc ins) ≡ true → is_sound_ins entries boots pc ins ≡ true
+    by_operands none there = plain_sound none (some_second (fixed_instr ins.op) _ (some_first (operand_instr pc ins) _ there))
+
+    by_constant : takes_names ins.op ≡ false → is_some (constant_instr entries ins) ≡ true → is_sound_ins entries boots pc ins ≡ true
+    by_constant none there = plain_sound none (some_second (fixed_instr ins.op) _ (some_second (operand_instr pc ins) _ (some_first (constant_instr entries ins) _ there)))
+
+    by_switch : takes_names ins.op ≡ false → is_some (switch_instr pc ins) ≡ true → is_sound_ins entries boots pc ins ≡ true
+    by_switch none there = plain_sound none (some_second (fixed_instr ins.op) _ (some_second (operand_instr pc ins) _ (some_second (constant_instr entries ins) _ there)))
+
+    by_name : (test : ℕ → Bool) → is_named_op ins.op ≡ true → ((index : ℕ) → test index ≡ true → is_named_sound entries ins.op index ≡ true) → passes test (index_in ins) ≡ true → is_sound_ins entries boots pc ins ≡ true
+    by_name test named says passed = cond-true (is_named_op ins.op) _ _ named ∙ passes_weaker test (is_named_sound entries ins.op) says (index_in ins) passed
+
+    by_call : (test : ℕ → Bool) → 182 ≤ ins.op → ins.op < 186 → ((index : ℕ) → test index ≡ true → ((tag_at entries index == 10) || (tag_at entries index == 11)) ≡ true) → passes test (index_in ins) ≡ true → is_sound_ins entries boots pc ins ≡ true
+    by_call test le lt says passed =
+        cond-false (is_named_op ins.op) _ _ (no_name ins.op le (omega (arith, lt))) ∙ cond-true (is_call_op ins.op) _ _ (is_call ins.op le lt)
+        ∙ passes_weaker test (λ index. passes (λ texts. is_entry_text is_method_descriptor texts.descr) (member_at entries index)) (λ index is. given.method index (says index is)) (index_in ins) passed
+
+    by_site : ins.op ≡ 186 → passes (λ index. (tag_at entries index == 18) || (tag_at entries index == 18)) (index_in ins) ≡ true → is_sound_ins entries boots pc ins ≡ true
+    by_site is passed =
+        cond-false (is_named_op ins.op) _ _ (no_name ins.op (omega (arith, is)) (omega (arith, is))) ∙ cond-false (is_call_op ins.op) _ _ (no_call ins.op is) ∙ cond-true (is_site_op ins.op) _ _ (here_eq ins.op 186 is)
+        ∙ passes_weaker (λ index. (tag_at entries index == 18) || (tag_at entries index == 18)) (is_sound_site_at entries boots) (λ index tag. given.site index (eqb-true (tag_at entries index) 18 (either (tag_at entries index == 18) tag))) (index_in ins) passed
+
+    local_there : passes (λ local. true) (found (number_at (local_width ins.wide) ins.args 0)) ≡ true → is_some (local_in ins) ≡ true
+    local_there passed = passes_some _ (local_in ins) passed
+
+    -- what the operands name is asked for, and the branches lead to short places
+    record IsGiven (f : Form) : Type 0 where
+      pub names : asked entries ins.wide f ins.args ≡ true
+      pub leads : list_all (passes is_short) (targets_of pc f ins.args) ≡ true
+
+    tag_method : (n : ℕ) → ((n == 10) || (n == 10)) ≡ true → ((n == 10) || (n == 11)) ≡ true
+    tag_method n is = grind (arith, nat_tests)
+
+    tag_interface : (n : ℕ) → ((n == 11) || (n == 11)) ≡ true → ((n == 10) || (n == 11)) ≡ true
+    tag_interface n is = grind (arith, nat_tests)
+
+    pub form_sound : is_asked entries ins ≡ true → list_all (passes is_short) (targets_of pc (form_of ins.op) ins.args) ≡ true → is_sound_ins entries boots pc ins ≡ true
+    unfolding form_of
+    form_sound names leads =
+        let op = ins.op in
+        let given_form : IsGiven (form_of ins.op) = record { names = names; leads = leads } in
+        below IsGiven op 16 given_form (λ lt h. by_fixed (none_low op (omega (arith, lt))) (fixed_low op (omega (arith, lt)))) (λ le row.
+        one IsGiven op 16 le row (λ is h. by_fixed (none_low op (omega (arith, is))) (fixed_low op (omega (arith, is)))) (λ le row.
+        one IsGiven op 17 (omega (arith, le)) row (λ is h. by_fixed (none_low op (omega (arith, is))) (fixed_low op (omega (arith, is)))) (λ le row.
+        one IsGiven op 18 (omega (arith, le)) row (λ is h. by_constant (none_low op (omega (arith, is))) (short_load ins is h.names)) (λ le row.
+        one IsGiven op 19 (omega (arith, le)) row (λ is h. by_constant (none_low op (omega (arith, is))) (long_load ins 1 (omega arith) (omega (arith, is)) (omega (arith, is)) h.names)) (λ le row.
+        one IsGiven op 20 (omega (arith, le)) row (λ is h. by_constant (none_low op (omega (arith, is))) (long_load ins 2 (omega arith) (omega (arith, is)) (omega (arith, is)) h.names)) (λ le row.
+        below IsGiven op 26 row (λ lt h. by_operands (none_low op (omega (arith, lt))) (load_there pc ins (omega (arith, le)) lt (local_there h.names))) (λ le row.
+        below IsGiven op 46 row (λ lt h. by_fixed (none_low op (omega (arith, lt))) (fixed_loads op le (omega (arith, lt)))) (λ le row.
+        below IsGiven op 54 row (λ lt h. by_fixed (none_low op (omega (arith, lt))) (fixed_loads op (omega (arith, le)) lt)) (λ le row.
+        below IsGiven op 59 row (λ lt h. by_operands (none_low op (omega (arith, lt))) (store_there pc ins le lt (local_there h.names))) (λ le row.
+        below IsGiven op 79 row (λ lt h. by_fixed (none_low op (omega (arith, lt))) (fixed_stores op le (omega (arith, lt)))) (λ le row.
+        below IsGiven op 132 row (λ lt h. by_fixed (none_low op (omega (arith, lt))) (fixed_stores op (omega (arith, le)) lt)) (λ le row.
+        one IsGiven op 132 le row (λ is h. by_operands (none_low op (omega (arith, is))) (increment_there pc ins is (local_there h.names))) (λ le row.
+        below IsGiven op 153 row (λ lt h. by_fixed (none_low op (omega (arith, lt))) (fixed_changes op le lt)) (λ le row.
+        below IsGiven op 168 row (λ lt h. by_operands (none_low op (omega (arith, lt))) (if_there pc ins le lt (near_there pc ins.args h.leads))) (λ le row.
+        below IsGiven op 170 row (λ lt h. absurd (false_true h.names)) (λ le row.
+        one IsGiven op 170 le row (λ is h. by_switch (none_low op (omega (arith, is))) (switch_there pc ins (here_two op 170 (omega (arith, is)) (omega (arith, is))) leads)) (λ le row.
+        one IsGiven op 171 (omega (arith, le)) row (λ is h. by_switch (none_low op (omega (arith, is))) (switch_there pc ins (here_two op 170 (omega (arith, is)) (omega (arith, is))) leads)) (λ le row.
+        below IsGiven op 178 row (λ lt h. by_fixed (none_low op lt) (fixed_returns op (omega (arith, le)) lt)) (λ le row.
+        below IsGiven op 182 row (λ lt h. by_name (λ n. (tag_at entries n == 9) || (tag_at entries n == 9)) (named_field op le lt) (λ index tag. field_sound op index le lt tag) h.names) (λ le row.
+        one IsGiven op 182 le row (λ is h. by_call (λ n. (tag_at entries n == 10) || (tag_at entries n == 10)) (omega (arith, is)) (omega (arith, is)) (λ index tag. tag_method (tag_at entries index) tag) h.names) (λ le row.
+        below IsGiven op 185 row (λ lt h. by_call (λ n. (tag_at entries n == 10) || (tag_at entries n == 11)) (omega (arith, le)) (omega (arith, lt)) (λ index tag. tag) h.names) (λ le row.
+        one IsGiven op 185 le row (λ is h. by_call (λ n. (tag_at entries n == 11) || (tag_at entries n == 11)) (omega (arith, is)) (omega (arith, is)) (λ index tag. tag_interface (tag_at entries index) tag) h.names) (λ le row.
+        one IsGiven op 186 (omega (arith, le)) row (λ is h. by_site is h.names) (λ le row.
+        one IsGiven op 187 (omega (arith, le)) row (λ is h. by_name (is_class_index entries) (named_new op is) (λ index class. class_index_sound op index is class) h.names) (λ le row.
+        one IsGiven op 188 (omega (arith, le)) row (λ is h. by_operands (none_primitive op is) (primitive_there pc ins is (array_of (found (number_at w8 ins.args 0)) h.names))) (λ le row.
+        one IsGiven op 189 (omega (arith, le)) row (λ is h. by_name (λ n. (tag_at entries n == 7) || (tag_at entries n == 7)) (named_array op is) (λ index tag. array_sound op index is tag) h.names) (λ le row.
+        below IsGiven op 192 row (λ lt h. by_fixed (none_middle op (omega (arith, le)) lt) (fixed_high op (omega (arith, le)) lt)) (λ le row.
+        below IsGiven op 194 row (λ lt h. by_name (λ n. (tag_at entries n == 7) || (tag_at entries n == 7)) (named_type op le lt) (λ index tag. type_sound op index le lt tag) h.names) (λ le row.
+        below IsGiven op 196 row (λ lt h. by_fixed (none_monitors op le lt) (fixed_monitors op le lt)) (λ le row.
+        one IsGiven op 196 le row (λ is h. absurd (false_true h.names)) (λ le row.
+        one IsGiven op 197 (omega (arith, le)) row (λ is h. by_name (λ n. ((tag_at entries n == 7) || (tag_at entries n == 7)) && holds_of is_array_like (class_name_at entries n)) (named_multi op is) (λ index asks. multi_sound op index is asks) h.names) (λ le row.
+        below IsGiven op 200 row (λ lt h. by_operands (none_high op (omega (arith, le))) (null_there pc ins (omega (arith, le)) lt (near_there pc ins.args h.leads))) (λ le row.
+        one IsGiven op 200 le row (λ is h. by_operands (none_high op (omega (arith, is))) (far_goto_there pc ins is (far_there pc ins.args h.leads))) (λ le row.
+        one IsGiven op 201 (omega (arith, le)) row (λ is h. absurd (false_true h.names)) (λ le row.
+        absurd (false_true row.names))))))))))))))))))))))))))))))))))))
