@@ -8,3 +8,4 @@ mod Referred
 mod AskedOperands
 mod ShortTargets
 mod GivenForms
+mod DecodedCode
