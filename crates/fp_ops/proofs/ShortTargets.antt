@@ -1,10 +1,9 @@
 -- Where the branches of a short code lead.
-use Rattle.std.proofs.Common.{◌≡◌, inl, inr, ℕ, ◌+◌, ◌<◌, ◌≤◌, Bool, true, ◌&&◌, ◌||◌, ◌==◌, List, [], ◌∷◌, ◌++◌, length, Option, Some, None, refl, sym, ap, ◌∙◌, arith}
+use Rattle.std.proofs.Common.{◌≡◌, inl, inr, ℕ, ◌+◌, ◌<◌, Bool, true, ◌==◌, List, [], ◌∷◌, ◌++◌, length, Option, Some, None, refl, ap, ◌∙◌, arith}
 use Rattle.std.specs.Prelude.{is_some, nat_lt}
 use Rattle.std.specs.List.{flat_map, list_all}
 use Rattle.std.proofs.lemmas.Bool.{and_parts, and_from, eqb-true, or_cases, cond-true}
 use Rattle.std.proofs.lemmas.List.{length-append}
-use Rattle.fp_model.specs.declared.form.Form.{Form}
 use Rattle.fp_model.specs.declared.form.Form.TheVariants as form
 use Rattle.fp_model.specs.declared.raw.attribute.RawIns.{RawIns}
 use Rattle.fp_model.specs.Branches.{far_target, near_target, starts_at, targets_of}
