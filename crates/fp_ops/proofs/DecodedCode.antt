@@ -16,10 +16,11 @@ use Rattle.fp_model.specs.Reading.{demanded}
 use Rattle.fp_model.specs.References.{each_checked}
 use Rattle.fp_model.specs.Spelling.{spelled_ins}
 use Rattle.fp_model.proofs.Readers.{demanded-true, opened}
-use Rattle.fp_ops.specs.Checked.{are_sound_from, GivesForms}
+use Rattle.fp_ops.specs.Checked.{are_sound_from, AreCheckedBoots, GivesForms, IsCheckedPool}
 use Rattle.fp_ops.specs.Forms.{is_sound_ins}
 use Rattle.fp_ops.proofs.AskedOperands.{ins_asked, is_asked}
 use Rattle.fp_ops.proofs.GivenForms.{form_sound}
+use Rattle.fp_ops.proofs.Referred.{gives_forms}
 use Rattle.fp_ops.proofs.ShortTargets.{all_weaker, is_short, starts_below}
 use Rattle.fp_ops.proofs.Spelled.{decoded_spelled, ok_is}
 
@@ -65,8 +66,10 @@ module _ (entries : List Entry) (boots : List BootRow) (given : GivesForms entri
       let rest = all_sound code (at + length (spelled_ins ins)) (pc + length (spelled_ins ins)) next parts.1 more in
       and_from (is_sound_ins entries boots pc ins) (are_sound_from entries boots (pc + length (spelled_ins ins)) code) first rest) checked
 
-pub decoded_sound : (entries : List Entry) (boots : List BootRow) (max_locals len : ℕ) (bytes : List ℕ) (at : ℕ) (code : List RawIns) → GivesForms entries boots → length bytes < 2 ^ 32 → len < 2 ^ 16 → decoded entries max_locals len bytes at ≡ Ok code → targets_checked code at ≡ Ok tt → are_sound_from entries boots 0 code ≡ true
-decoded_sound entries boots max_locals len bytes at code given small short e checked =
+-- A law for files of offsets of 32 bits: beyond these, `plain_at` looks for the operands at the greatest such offset, and
+-- not behind the opcode.
+pub decoded_sound : (entries : List Entry) (boots : List BootRow) (max_locals len : ℕ) (bytes : List ℕ) (at : ℕ) (code : List RawIns) → IsCheckedPool entries → AreCheckedBoots entries boots → length bytes < 2 ^ 32 → len < 2 ^ 16 → decoded entries max_locals len bytes at ≡ Ok code → targets_checked code at ≡ Ok tt → are_sound_from entries boots 0 code ≡ true
+decoded_sound entries boots max_locals len bytes at code checked rows small short e led =
     let spelled = decoded_spelled entries max_locals len bytes at code e in
     let size : length (flat_map spelled_ins code) < 2 ^ 16 = omega (arith, ap length spelled, length-take len (drop at bytes), short) in
-    all_sound entries boots given code size at code at 0 (omega arith) (code_asked entries max_locals len bytes at code small e) checked
+    all_sound entries boots (gives_forms entries boots checked rows) code size at code at 0 (omega arith) (code_asked entries max_locals len bytes at code small e) led

@@ -18,7 +18,7 @@ use Rattle.fp_model.specs.declared.raw.attribute.BootRow.{BootRow}
 use Rattle.fp_model.specs.Decoding.{constant_words}
 use Rattle.fp_model.specs.Instructions.{descr_instr, entry_instr}
 use Rattle.fp_ops.specs.CallSites.{handle_at, handle_in, handle_with, is_sound_arg_at, is_sound_arg_of, is_sound_site, is_sound_site_at, site_at, site_by, site_in, site_with}
-use Rattle.fp_ops.specs.Checked.{has_row, is_short_entry, AreCheckedBoots, IsCheckedPool}
+use Rattle.fp_ops.specs.Checked.{has_row, is_short_entry, AreCheckedBoots, GivesForms, IsCheckedPool}
 
 -- ---- each entry passed its check
 
@@ -303,3 +303,15 @@ module _ (entries : List Entry) (checked : IsCheckedPool entries) where
 
   pub constant_there : (index : ℕ) → 0 < constant_words entries (slice_get entries index) → is_some (entry_instr entries (slice_get entries index)) ≡ true
   constant_there index some = constant_passes (slice_get entries index) (at_index index) some
+
+-- ---- all of these
+
+pub gives_forms : (entries : List Entry) (boots : List BootRow) → IsCheckedPool entries → AreCheckedBoots entries boots → GivesForms entries boots
+gives_forms entries boots checked rows = record {
+  field = field_there entries checked;
+  method = method_there entries checked;
+  class = class_text_there entries checked;
+  array = array_there entries checked;
+  site = site_there entries checked boots rows;
+  constant = constant_there entries checked;
+}
