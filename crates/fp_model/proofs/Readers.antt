@@ -44,11 +44,11 @@ run_below bytes at count all fits i =
       | inr ge ↦ rw (get_or_past run i 0 (omega arith)) (omega arith)
     ]
 
-number_found : (w : Width) (bytes : List ℕ) (at : ℕ) (x : ℕ × ℕ) → number_at w bytes at ≡ Ok x → (at + byte_len w ≤ length bytes) × (x ≡ (from_be_bytes w (take (byte_len w) (drop at bytes)), at + byte_len w))
+pub number_found : (w : Width) (bytes : List ℕ) (at : ℕ) (x : ℕ × ℕ) → number_at w bytes at ≡ Ok x → (at + byte_len w ≤ length bytes) × (x ≡ (from_be_bytes w (take (byte_len w) (drop at bytes)), at + byte_len w))
 unfolding number_at
 number_found w bytes at x e = grind (arith, nat_tests)
 
-number_given : (w : Width) (bytes : List ℕ) (at n : ℕ) → at + byte_len w ≤ length bytes → from_be_bytes w (take (byte_len w) (drop at bytes)) ≡ n → number_at w bytes at ≡ Ok (n, at + byte_len w)
+pub number_given : (w : Width) (bytes : List ℕ) (at n : ℕ) → at + byte_len w ≤ length bytes → from_be_bytes w (take (byte_len w) (drop at bytes)) ≡ n → number_at w bytes at ≡ Ok (n, at + byte_len w)
 unfolding number_at
 number_given w bytes at n fits is = cond-true _ _ _ (le-leb (at + byte_len w) (length bytes) fits) ∙ ap (λ m. Ok (m, at + byte_len w)) is
 

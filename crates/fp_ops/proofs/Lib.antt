@@ -5,3 +5,7 @@ mod Places
 mod NamedParts
 mod SiteTexts
 mod Referred
+mod AskedOperands
+mod ShortTargets
+mod GivenForms
+mod DecodedCode

@@ -18,7 +18,7 @@ use Rattle.fp_model.specs.declared.raw.attribute.BootRow.{BootRow}
 use Rattle.fp_model.specs.Decoding.{constant_words}
 use Rattle.fp_model.specs.Instructions.{descr_instr, entry_instr}
 use Rattle.fp_ops.specs.CallSites.{handle_at, handle_in, handle_with, is_sound_arg_at, is_sound_arg_of, is_sound_site, is_sound_site_at, site_at, site_by, site_in, site_with}
-use Rattle.fp_ops.specs.Checked.{has_row, is_short_entry, AreCheckedBoots, IsCheckedPool}
+use Rattle.fp_ops.specs.Checked.{has_row, is_short_entry, AreCheckedBoots, GivesForms, IsCheckedPool}
 
 -- ---- each entry passed its check
 
@@ -57,7 +57,7 @@ holds_any : (o : Option (List ℕ)) → holds_of is_any o ≡ true
 holds_any None = refl
 holds_any (Some text) = refl
 
-passes_some : {A : Type 0} (test : A → Bool) (o : Option A) → passes test o ≡ true → is_some o ≡ true
+pub passes_some : {A : Type 0} (test : A → Bool) (o : Option A) → passes test o ≡ true → is_some o ≡ true
 passes_some test None is = absurd (cc)
 passes_some test (Some x) is = refl
 
@@ -303,3 +303,15 @@ module _ (entries : List Entry) (checked : IsCheckedPool entries) where
 
   pub constant_there : (index : ℕ) → 0 < constant_words entries (slice_get entries index) → is_some (entry_instr entries (slice_get entries index)) ≡ true
   constant_there index some = constant_passes (slice_get entries index) (at_index index) some
+
+-- ---- all of these
+
+pub gives_forms : (entries : List Entry) (boots : List BootRow) → IsCheckedPool entries → AreCheckedBoots entries boots → GivesForms entries boots
+gives_forms entries boots checked rows = record {
+  field = field_there entries checked;
+  method = method_there entries checked;
+  class = class_text_there entries checked;
+  array = array_there entries checked;
+  site = site_there entries checked boots rows;
+  constant = constant_there entries checked;
+}

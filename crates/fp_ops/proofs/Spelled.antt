@@ -15,7 +15,7 @@ use Rattle.fp_model.specs.Decoding.{operands_end, wide_end, padding_len, plain_a
 use Rattle.fp_model.proofs.Takes.{Takes, Takes-then}
 use Rattle.fp_model.proofs.Readers.{opened, u1_takes, bytes_takes}
 
-ok_is : {A : Type 0} (a b : A) → (let given : Result A FileFault = Ok a in given) ≡ Ok b → a ≡ b
+pub ok_is : {A : Type 0} (a b : A) → (let given : Result A FileFault = Ok a in given) ≡ Ok b → a ≡ b
 ok_is a b e = cc
 
 -- ---- one instruction
@@ -102,7 +102,7 @@ reads_ins entries max_locals start bytes = record {
 }
 
 -- a code is the spelling of what is decoded from it
-decoded_spelled : (entries : List Entry) (max_locals len : ℕ) (bytes : List ℕ) (at : ℕ) (code : List RawIns) → decoded entries max_locals len bytes at ≡ Ok code → flat_map spelled_ins code ≡ take len (drop at bytes)
+pub decoded_spelled : (entries : List Entry) (max_locals len : ℕ) (bytes : List ℕ) (at : ℕ) (code : List RawIns) → decoded entries max_locals len bytes at ≡ Ok code → flat_map spelled_ins code ≡ take len (drop at bytes)
 decoded_spelled entries max_locals len bytes at code e =
     let window = take (at + len) bytes in
     let size : length window ≤ at + len = omega (arith, length-take (at + len) bytes) in

@@ -19,7 +19,7 @@ mod switches;
 pub use branches::{check_targets, starts};
 pub use forms::operands_of;
 pub use instr::to_instr;
-pub use law::law_pool_gives_forms;
+pub use law::{law_decoded_gives_forms, law_pool_gives_forms};
 pub use reading::decode;
 pub use soundness::has_form;
 
