@@ -102,7 +102,7 @@ reads_ins entries max_locals start bytes = record {
 }
 
 -- a code is the spelling of what is decoded from it
-decoded_spelled : (entries : List Entry) (max_locals len : ℕ) (bytes : List ℕ) (at : ℕ) (code : List RawIns) → decoded entries max_locals len bytes at ≡ Ok code → flat_map spelled_ins code ≡ take len (drop at bytes)
+pub decoded_spelled : (entries : List Entry) (max_locals len : ℕ) (bytes : List ℕ) (at : ℕ) (code : List RawIns) → decoded entries max_locals len bytes at ≡ Ok code → flat_map spelled_ins code ≡ take len (drop at bytes)
 decoded_spelled entries max_locals len bytes at code e =
     let window = take (at + len) bytes in
     let size : length window ≤ at + len = omega (arith, length-take (at + len) bytes) in
