@@ -36,7 +36,7 @@ use Rattle.fp_attr.proofs.Readings.{is_boot, is_plain, is_row, reads_boot, reads
 
 -- ---- windows
 
-behind_found : (bytes : List ℕ) (count at end : ℕ) → behind count bytes at ≡ Ok end → (at + count ≤ length bytes) × (end ≡ at + count)
+pub behind_found : (bytes : List ℕ) (count at end : ℕ) → behind count bytes at ≡ Ok end → (at + count ≤ length bytes) × (end ≡ at + count)
 unfolding behind
 behind_found bytes count at end e = grind (arith, nat_tests)
 
@@ -76,7 +76,7 @@ module _ (window : List ℕ) (below : IsBytes window) where
   inners_take : (at : ℕ) (x : List RawAttr × ℕ) → counted_at (inner_at window) window at ≡ Ok x → Takes window at (counted spelled_plain x.0) x.1
   inners_take at x e = ((reads_counted window is_plain spelled_plain (inner_at window) (reads_inner window)).takes below at x e).1
 
-  boots_take : (at : ℕ) (x : List BootRow × ℕ) → counted_at (boot_at window) window at ≡ Ok x → Takes window at (counted spelled_boot x.0) x.1
+  pub boots_take : (at : ℕ) (x : List BootRow × ℕ) → counted_at (boot_at window) window at ≡ Ok x → Takes window at (counted spelled_boot x.0) x.1
   boots_take at x e = ((reads_counted window is_boot spelled_boot (boot_at window) (reads_boot window)).takes below at x e).1
 
   -- ---- what an attribute holds
@@ -123,7 +123,7 @@ module _ (window : List ℕ) (below : IsBytes window) where
     pub rows : cut.rows_at + length (flat_map spelled_row cut.rows) ≤ length window
     pub attributes : cut.attributes_at + length (flat_map spelled_plain cut.attributes) ≤ length window
 
-  cut_take : (at : ℕ) (cut : Cut) → cut_at window at ≡ Ok cut → IsCut at cut
+  pub cut_take : (at : ℕ) (cut : Cut) → cut_at window at ≡ Ok cut → IsCut at cut
   unfolding cut_at
   cut_take at cut e =
       opened (number_at w16 window at) _ (λ stack stacks e1.

@@ -94,6 +94,29 @@ fn read_body(
     }
 }
 
+/// An attribute at an offset, and the offset after it.
+#[tactic(auto, unfolding(crate::specs::Attributes::attribute_at))]
+fn attribute(
+    alloc: Global,
+    bytes: &[u8],
+    at: u32,
+    pool: &Pool,
+    owner: Owner,
+) -> Result<(RawAttr, u32), FileFault>
+    requires { length bytes.now < 2 ^ 32 }
+    ensures { Gives result (attribute_at pool.now.entries owner bytes.now at) }
+{
+    let (name, len_at) = u16_at(bytes, at)?;
+    let (len, start) = u32_at(bytes, len_at)?;
+    let end = behind(bytes, start, len)?;
+    if tag(pool.entries.as_slice(), name) != UTF8 {
+        return Err(FileFault::Index { at, index: name });
+    }
+    let window = &bytes[..end as usize];
+    let body = read_body(alloc, pool, owner, name, len_at, window, start)?;
+    Ok((RawAttr { name, body }, end))
+}
+
 /// The attribute of an owner at an offset of a file, and the offset after it (JVMS SE 21 section 4.7).
 ///
 /// The bytes are fewer than 2^32. A fault is the first one in this order: the attribute is cut by its length (`Truncated`),
@@ -104,7 +127,6 @@ fn read_body(
 /// the row) and classes (`Index`), and the names of its attributes are texts (`Index`). The `BootstrapMethods` of a class is
 /// cut within its length, and then its indexes are those of method handles and constants (`Index`). Every other attribute
 /// is kept unread. `Memory` says nothing of the file.
-#[tactic(auto, unfolding(crate::specs::Attributes::attribute_at))]
 pub fn read_attr(
     alloc: Global,
     bytes: &[u8],
@@ -118,15 +140,7 @@ pub fn read_attr(
     // What is read is spelled there.
     ensures spelled { IfOk result (λ x. Takes bytes.now at (spelled_attr x.0) x.1) }
 {
-    let (name, len_at) = u16_at(bytes, at)?;
-    let (len, start) = u32_at(bytes, len_at)?;
-    let end = behind(bytes, start, len)?;
-    if tag(pool.entries.as_slice(), name) != UTF8 {
-        return Err(FileFault::Index { at, index: name });
-    }
-    let window = &bytes[..end as usize];
-    let body = read_body(alloc, pool, owner, name, len_at, window, start)?;
-    Ok((RawAttr { name, body }, end))
+    attribute(alloc, bytes, at, pool, owner)
 }
 
 /// The offset behind the attribute at an offset, by its length alone.
