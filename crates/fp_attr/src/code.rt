@@ -1,5 +1,5 @@
 //! The `Code` attribute of a method (JVMS SE 21 section 4.7.3).
-ghost use Rattle.std.specs.Prelude.{◌≡◌, ◌+◌, ◌^◌, ◌<◌, ◌≤◌, length};
+ghost use Rattle.std.specs.Prelude.{◌≡◌, ◌+◌, ◌^◌, ◌<◌, ◌≤◌, ◌&&◌, length, nat_le, nat_lt};
 ghost use Rattle.std.specs.List.{flat_map};
 ghost use Rattle.fp_model.specs.Reading.{Gives};
 ghost use Rattle.fp_model.specs.References.{each_checked};
@@ -15,6 +15,20 @@ use std::alloc::Global;
 
 /// How many bytes of code a method has at most.
 const LONGEST_CODE: u32 = 65535;
+
+/// Whether the locals hold the words of the arguments.
+fn has_room(max_locals: u16, words: u16) -> bool
+    ensures { result ≡ nat_le words max_locals }
+{
+    words <= max_locals
+}
+
+/// Whether a code may have so many bytes.
+fn has_size(len: u32) -> bool
+    ensures { result ≡ (nat_lt 0 len && nat_lt len 65536) }
+{
+    len != 0 && len <= LONGEST_CODE
+}
 
 /// How many bytes an attribute of a code takes, which is kept unread.
 fn size(attribute: &RawAttr) -> u32
@@ -59,10 +73,10 @@ pub fn read_code(
     ensures { Gives result (code_at pool.now.entries words window.now at) }
 {
     let cut = cut_code(alloc, window, at)?;
-    if words > cut.max_locals {
+    if !has_room(cut.max_locals, words) {
         return Err(FileFault::Bounds { at: at + 2 });
     }
-    if cut.len == 0 || cut.len > LONGEST_CODE {
+    if !has_size(cut.len) {
         return Err(FileFault::Bounds { at: at + 4 });
     }
     let entries = pool.entries.as_slice();

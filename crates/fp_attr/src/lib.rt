@@ -10,3 +10,6 @@ mod rows;
 
 pub use attribute::{law_skipped, read_attr, skip_attr};
 pub use owner::Owner;
+
+#[cfg(test)]
+mod tests;

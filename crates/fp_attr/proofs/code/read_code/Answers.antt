@@ -9,8 +9,8 @@ overflow_add-result c =
     let cut = cut_take c.args.window.now (record { below = λ i. omega (arith, c.type_inv.window i) }) c.args.at c.in_ok-cut.cut c.in_ok-cut.ensures.exact in
     omega (arith, c.requires, cut.room)
 
-pub overflow_add-result-then-cut-eq0 : goal.overflow_add-result-then-cut-eq0
-overflow_add-result-then-cut-eq0 c =
+pub overflow_add-result-then-not-has_size : goal.overflow_add-result-then-not-has_size
+overflow_add-result-then-not-has_size c =
     let cut = cut_take c.args.window.now (record { below = λ i. omega (arith, c.type_inv.window i) }) c.args.at c.in_ok-cut.cut c.in_ok-cut.ensures.exact in
     omega (arith, c.requires, cut.room)
 
