@@ -1,9 +1,8 @@
 -- Readers of the parts of attributes, which read what is spelled and read each part from its spelling.
-use Rattle.std.proofs.Common.{◌≡◌, ℕ, ◌+◌, ◌<◌, Bool, true, false, ◌&&◌, List, ◌++◌, length, get_or, take, drop, ltb, IsTrue, Ok, refl, sym, ap, ◌∙◌, subst, arith}
+use Rattle.std.proofs.Common.{◌≡◌, ℕ, ◌+◌, ◌<◌, Bool, false, ◌&&◌, List, ◌++◌, length, get_or, take, drop, ltb, IsTrue, Ok, refl, sym, subst, arith}
 use Rattle.std.proofs.lemmas.Bool.{and_parts, and_from, lt-ltb, ltb-true}
 use Rattle.std.specs.Int.{w16, w32, from_be_bytes}
-use Rattle.std.specs.List.{flat_map, list_all}
-use Rattle.fp_model.specs.declared.fault.FileFault.{FileFault}
+use Rattle.std.specs.List.{list_all}
 use Rattle.fp_model.specs.declared.raw.attribute.BootRow.{BootRow}
 use Rattle.fp_model.specs.declared.raw.attribute.CatchRow.{CatchRow}
 use Rattle.fp_model.specs.declared.raw.attribute.RawAttr.{RawAttr}

@@ -1,11 +1,11 @@
 -- What is read of an attribute is spelled there.
-use Rattle.std.proofs.Common.{◌≡◌, inl, inr, ℕ, ◌+◌, ◌-◌, ◌<◌, ◌≤◌, Bool, true, false, ◌&&◌, ◌==◌, cond, List, ◌++◌, length, get_or, take, drop, Result, Ok, Err, Option, Some, None, IfOk, codes, refl, sym, ap, ◌∙◌, subst, arith}
+use Rattle.std.proofs.Common.{◌≡◌, inl, inr, ℕ, ◌+◌, ◌-◌, ◌≤◌, Bool, true, false, ◌&&◌, ◌==◌, cond, List, ◌++◌, length, take, drop, Result, Ok, Err, Option, IfOk, codes, refl, sym, ap, ◌∙◌, subst, arith}
 use Rattle.std.specs.Prelude.{nat_le, nat_lt}
-use Rattle.std.specs.List.{flat_map, list_all}
+use Rattle.std.specs.List.{flat_map}
 use Rattle.std.specs.Int.{w16, w32}
-use Rattle.std.proofs.lemmas.Bool.{cases_lt, eqb-true, cases_Bool}
+use Rattle.std.proofs.lemmas.Bool.{cases_lt, eqb-true}
 use Rattle.std.proofs.lemmas.Bool.Decides.{nat_tests}
-use Rattle.std.proofs.lemmas.List.{append_assoc, drop-append-le, get_or-take, get_or_past, length-drop, length-take-le, take-append-drop}
+use Rattle.std.proofs.lemmas.List.{append_assoc, drop-append-le, get_or-take, get_or_past, length-take-le, take-append-drop}
 use Rattle.fp_model.specs.declared.fault.FileFault.{FileFault}
 use Rattle.fp_model.specs.declared.fault.FileFault.TheVariants as fault
 use Rattle.fp_model.specs.declared.raw.pool.Entry.{Entry}
@@ -22,9 +22,9 @@ use Rattle.fp_model.specs.Decoding.{decoded}
 use Rattle.fp_model.specs.Entries.{tag_at, text_at}
 use Rattle.fp_model.specs.Reading.{behind, bytes_at, counted_at, demanded, number_at, Gives}
 use Rattle.fp_model.specs.References.{each_checked, tagged}
-use Rattle.fp_model.specs.Spelling.{body_bytes, counted, is_u2, spelled_attr, spelled_boot, spelled_ins, spelled_plain, spelled_row, u2, u4}
+use Rattle.fp_model.specs.Spelling.{body_bytes, counted, spelled_attr, spelled_boot, spelled_ins, spelled_plain, spelled_row, u2, u4}
 use Rattle.fp_model.proofs.Takes.{Takes, Takes-run, Takes-then}
-use Rattle.fp_model.proofs.Readers.{bytes_takes, demanded-true, opened, reads_counted, reads_u2, stepped, u4_takes, IsBytes, IsReader}
+use Rattle.fp_model.proofs.Readers.{bytes_takes, demanded-true, opened, reads_counted, reads_u2, stepped, u4_takes, IsBytes}
 use Rattle.fp_ops.proofs.Spelled.{decoded_spelled}
 use Rattle.fp_attr.specs.declared.cut.Cut.{Cut}
 use Rattle.fp_attr.specs.declared.owner.Owner.{Owner}

@@ -118,7 +118,7 @@ fn many_inners(
 }
 
 /// Cuts what a `Code` attribute holds, which begins at an offset and ends where the window does.
-#[tactic(auto, unfolding(crate::specs::Codes::cut_at))]
+#[tactic(auto, unfolding(crate::specs::Codes::cut_at), using(crate::proofs::Spelled::behind_found))]
 pub fn cut_code(alloc: Global, window: &[u8], at: u32) -> Result<Cut, FileFault>
     requires { length window.now < 2 ^ 32 }
     ensures exact { Gives result (cut_at window.now at) }

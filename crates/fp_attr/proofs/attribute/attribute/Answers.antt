@@ -1,4 +1,4 @@
-use Rattle.std.proofs.Common.{◌≤◌, length, sym, arith, length-take-le}
+use Rattle.std.proofs.Common.{sym, arith, length-take-le}
 use Rattle.fp_attr.proofs.Spelled.{behind_found}
 use Rattle.fp_attr.proofs.attribute.attribute.Goals as goal
 

@@ -1,6 +1,4 @@
-use Rattle.std.proofs.Common.{◌+◌, ◌<◌, length, sym, subst, arith}
-use Rattle.std.specs.List.{flat_map}
-use Rattle.fp_model.specs.Spelling.{spelled_plain, spelled_row}
+use Rattle.std.proofs.Common.{arith}
 use Rattle.fp_attr.proofs.Spelled.{cut_take}
 use Rattle.fp_attr.proofs.code.read_code.Goals as goal
 

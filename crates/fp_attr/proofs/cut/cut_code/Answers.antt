@@ -1,6 +1,6 @@
 use Rattle.std.proofs.Common.{arith}
 use Rattle.fp_attr.specs.Codes.{inner_at, row_at}
-use Rattle.fp_attr.proofs.Spelled.{behind_found, counted_room}
+use Rattle.fp_attr.proofs.Spelled.{counted_room}
 use Rattle.fp_attr.proofs.cut.cut_code.Goals as goal
 
 pub overflow_add-result : goal.overflow_add-result
@@ -8,6 +8,3 @@ overflow_add-result c = omega (arith, c.requires, counted_room (row_at c.args.wi
 
 pub overflow_add-result-2 : goal.overflow_add-result-2
 overflow_add-result-2 c = omega (arith, c.requires, counted_room (inner_at c.args.window.now) c.args.window.now c.in_ok-rows.next (c.in_ok-attributes.attributes, c.in_ok-attributes.last) c.in_ok-attributes.ensures)
-
-pub returns-clause-lies : goal.returns-clause-lies
-returns-clause-lies c = (behind_found c.args.window.now c.in_ok-len.len c.in_ok-len.start c.in_ok-end.end c.in_ok-end.ensures).0
