@@ -35,7 +35,7 @@ demanded-Ok passed f e = rw e refl
 pub record IsBytes (bytes : List ℕ) : Type 0 where
   pub below : (i : ℕ) → get_or bytes i 0 < 256
 
-run_below : (bytes : List ℕ) (at count : ℕ) → IsBytes bytes → at + count ≤ length bytes → (i : ℕ) → get_or (take count (drop at bytes)) i 0 < 256
+pub run_below : (bytes : List ℕ) (at count : ℕ) → IsBytes bytes → at + count ≤ length bytes → (i : ℕ) → get_or (take count (drop at bytes)) i 0 < 256
 run_below bytes at count all fits i =
     let run = take count (drop at bytes) in
     let size : length run ≡ count = length-take-le count (drop at bytes) (omega (arith, length-drop at bytes)) in

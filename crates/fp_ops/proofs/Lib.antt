@@ -1,6 +1,6 @@
 mod Loops
-mod Spelled
-mod Walking
+pub mod Spelled
+pub mod Walking
 mod Places
 mod NamedParts
 mod SiteTexts
