@@ -1,3 +1,3 @@
 mod Checking
 mod Readings
-mod Spelled
+pub mod Spelled

@@ -1,9 +1,16 @@
-mod Conditions
-pub mod Files
+pub mod ClassSpelled
+pub mod Facts
+pub mod Heads
 pub mod Marks
+pub mod MemberSpelled
 pub mod Memos
+pub mod MemberTexts
 mod NamedParts
 mod Numberings
-mod Pieces
-mod Repeating
+mod Seen
+pub mod Skipped
+pub mod OneClass
+pub mod Phases
+pub mod Sorts
 mod Tables
+mod Walks

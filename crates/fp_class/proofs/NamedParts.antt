@@ -1,10 +1,10 @@
 -- The parts of a class in numbers of a table of names.
-use Rattle.std.proofs.Common.{◌≡◌, inl, inr, ℕ, ◌+◌, true, drop, ltb, zero, suc, ◌<◌, List, [], ◌∷◌, ◌++◌, map, Option, Some, None, length, refl, sym, ap, ◌∙◌, subst, arith}
+use Rattle.std.proofs.Common.{◌≡◌, inl, inr, ℕ, ◌+◌, true, drop, Bool, zero, suc, ◌<◌, List, [], ◌∷◌, ◌++◌, map, Option, Some, None, length, refl, sym, ap, ◌∙◌, subst, arith}
 use Rattle.std.proofs.lemmas.List.Elements.{All-nil, All-cons}
 use Rattle.std.proofs.lemmas.Bool.{and_parts, both_ways, cases_lt, ltb-true}
 use Rattle.std.proofs.lemmas.List.{take-append-drop}
 use Rattle.std.specs.List.{All, list_all, flat_map, AllZip, slice_get}
-use Rattle.std.specs.Option.{option_and_then, option_to_list, unwrap_or, IfSome}
+use Rattle.std.specs.Option.{is_some, option_and_then, option_to_list, unwrap_or, IfSome}
 use Rattle.fp_model.specs.declared.raw.pool.Entry.{Entry}
 use Rattle.fp_model.specs.declared.raw.pool.Entry.TheVariants as entry
 use Rattle.fp_model.specs.declared.class.Method.{Method}
@@ -12,15 +12,15 @@ use Rattle.fp_model.specs.declared.kind.Kind.{Kind}
 use Rattle.fp_model.specs.declared.raw.RawMember.{RawMember}
 use Rattle.fp_model.specs.declared.raw.Raw.{Raw}
 use Rattle.fp_model.specs.declared.class.Field.{Field}
-use Rattle.fp_model.specs.Classes.{field_names, raw_names, IsFieldOf, IsClassOf}
+use Rattle.fp_class.specs.Classes.{field_names, raw_names, IsFieldOf, IsClassOf}
 use Rattle.fp_model.specs.ClassSet.{IsFieldOver, IsMethodOver}
 use Rattle.fp_model.specs.Descriptor.{is_field_descriptor, IsBadAt, IsKindOf}
-use Rattle.fp_model.specs.Entries.{text_in, text_at, class_name_at}
-use Rattle.fp_model.specs.Thin.{is_thin_entry, is_thin_pool, is_sound_field}
+use Rattle.fp_model.specs.Entries.{passes, text_in, text_at, class_name_at}
 use Rattle.fp_model.proofs.LongerTables.{Keeps, IsKindOf-kept}
-use Rattle.fp_class.proofs.Repeating.{texts_of}
 use Rattle.fp_model.proofs.Interned.{Keeps-then}
+use Rattle.fp_ops.specs.Checked.{is_short_entry}
 use Rattle.fp_class.specs.Interning.{IsClassName, IsParentName, IsNamedField}
+use Rattle.fp_class.specs.Naming.{is_sound_field}
 
 -- ---- lists place by place
 
@@ -62,6 +62,31 @@ IsNamedField-kept names longer entries f member kept is = record {
   descr_text = is.descr_text;
   kind = IsKindOf-kept names longer kept is.descr f.kind is.kind;
 }
+
+-- ---- what is there
+
+-- what passes a test is there
+pub passes-is_some : {A : Type 0} (test : A → Bool) (o : Option A) → passes test o ≡ true → is_some o ≡ true
+passes-is_some test None h = absurd (cc)
+passes-is_some test (Some x) h = refl
+
+-- the texts of a sound field
+record HasTexts (entries : List Entry) (field : RawMember) : Type 0 where
+  name : List ℕ
+  descr : List ℕ
+  name_is : text_at entries field.name ≡ Some name
+  descr_is : text_at entries field.descr ≡ Some descr
+
+some_of : {A : Type 0} (o : Option A) → is_some o ≡ true → (x : A) × (o ≡ Some x)
+some_of None h = absurd (cc)
+some_of (Some x) h = (x, refl)
+
+texts_of : (entries : List Entry) (field : RawMember) → is_sound_field entries field ≡ true → HasTexts entries field
+texts_of entries field sound =
+    let parts = and_parts (is_some (text_at entries field.name)) (passes is_field_descriptor (text_at entries field.descr)) sound in
+    let name = some_of (text_at entries field.name) parts.0 in
+    let descr = some_of (text_at entries field.descr) (passes-is_some is_field_descriptor (text_at entries field.descr) parts.1) in
+    record { name = name.0; descr = descr.0; name_is = name.1; descr_is = descr.1 }
 
 -- ---- the class
 
@@ -163,22 +188,17 @@ texts_whole raw entries indexes members is i_is m_is =
     ∙ ap (λ l. option_to_list (class_name_at entries raw.this) ++ (option_to_list (class_name_at entries raw.parent) ++ (flat_map (λ index. option_to_list (class_name_at entries index)) raw.interfaces ++ flat_map (field_names entries) l))) m_is
     ∙ ap (λ e. option_to_list (class_name_at e raw.this) ++ (option_to_list (class_name_at e raw.parent) ++ (flat_map (λ index. option_to_list (class_name_at e index)) raw.interfaces ++ flat_map (field_names e) raw.fields))) is
 
--- ---- what a thin class file gives
+-- ---- descriptors
 
-entry_text : (e : Entry) (text : List ℕ) → is_thin_entry e ≡ true → text_in (Some e) ≡ Some text → length text < 65536
-entry_text (entry.Utf8 t) text thin at = let is : t ≡ text = cc in omega (arith, ltb-true (length t) 65536 thin, ap length is)
-entry_text e text thin at = absurd (cc)
-
-thin_text : (entries : List Entry) (i : ℕ) (text : List ℕ) → list_all is_thin_entry entries ≡ true → text_at entries i ≡ Some text → length text < 65536
-thin_text [] i text thin at = absurd (cc)
-thin_text (e ∷ entries) zero text thin at = entry_text e text (and_parts (is_thin_entry e) (list_all is_thin_entry entries) thin).0 at
-thin_text (e ∷ entries) (suc i) text thin at = thin_text entries i text (and_parts (is_thin_entry e) (list_all is_thin_entry entries) thin).1 at
+entry_text : (e : Entry) (text : List ℕ) → is_short_entry e ≡ true → text_in (Some e) ≡ Some text → length text < 65536
+entry_text (entry.Utf8 t) text short at = let is : t ≡ text = cc in omega (arith, ltb-true (length t) 65536 short, ap length is)
+entry_text e text short at = absurd (cc)
 
 -- a text is shorter than 2 ^ 16 bytes
-pub text_short : (entries : List Entry) (i : ℕ) (text : List ℕ) → is_thin_pool entries ≡ true → text_at entries i ≡ Some text → length text < 65536
-text_short (entry.Unused ∷ more) zero text thin at = absurd (cc)
-text_short (entry.Unused ∷ more) (suc i) text thin at = thin_text more i text (and_parts (ltb (length more) 65535) (list_all is_thin_entry more) thin).1 at
-text_short entries i text thin at = absurd (cc)
+pub text_short : (entries : List Entry) (i : ℕ) (text : List ℕ) → list_all is_short_entry entries ≡ true → text_at entries i ≡ Some text → length text < 65536
+text_short [] i text short at = absurd (cc)
+text_short (e ∷ entries) zero text short at = entry_text e text (and_parts (is_short_entry e) (list_all is_short_entry entries) short).0 at
+text_short (e ∷ entries) (suc i) text short at = text_short entries i text (and_parts (is_short_entry e) (list_all is_short_entry entries) short).1 at
 
 -- a field descriptor has no bad place
 pub not_bad : (text : List ℕ) (at : ℕ) → is_field_descriptor text ≡ true → IsBadAt text at → ⊥

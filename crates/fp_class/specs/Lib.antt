@@ -1,4 +1,10 @@
+pub mod Classes
+pub mod ClassFile
 pub mod Descriptors
 pub mod Interning
 pub mod Keys
+pub mod Layout
+pub mod Members
 pub mod Memos
+pub mod Naming
+pub mod Texts

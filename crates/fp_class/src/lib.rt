@@ -2,16 +2,18 @@
 #![tactic(auto)]
 
 mod descriptors;
+mod file;
+mod law;
+mod layout;
+mod members;
 mod memo;
 mod naming;
-mod parts;
-mod pool;
-mod reader;
-mod repeats;
-mod soundness;
+mod numbers;
+mod texts;
 
+pub use file::read_class;
+pub use law::{law_one_class, law_spelling};
 pub use naming::to_class;
-pub use reader::{law_spelling, read_class};
 
 #[cfg(test)]
 mod tests;

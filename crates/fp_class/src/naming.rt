@@ -1,21 +1,26 @@
 //! Class files in numbers of a table of names.
-ghost use Rattle.std.specs.Prelude.{◌≡◌, ◌++◌, ◌^◌, ◌<◌, ◌≤◌, ◌↔◌, IsNone, ℕ, List, [], ◌∷◌, length, true, slice_get, unwrap_or, is_some, IsTrue, IsSome, IfOk, IfSome, OnOk, IsErrOf};
+ghost use Rattle.std.specs.Prelude.{◌≡◌, ◌++◌, ◌^◌, ◌<◌, ◌↔◌, IsNone, ℕ, List, [], ◌∷◌, length, true, slice_get, unwrap_or, is_some, IsTrue, IfOk, IfSome, OnOk, IsErrOf};
 ghost use Rattle.std.specs.List.{list_all, flat_map, AllZip};
 ghost use Rattle.std.specs.Option.{option_to_list};
 ghost use Rattle.fp_base.specs.Names.{with_names};
-ghost use Rattle.fp_model.specs.Classes.{field_names, raw_names, IsClassOf};
-ghost use Rattle.fp_model.specs.Descriptor.{is_field_descriptor, kind_names, IsKindOf, LacksRoom};
+ghost use Rattle.fp_class.specs.Classes.{field_names, raw_names, IsClassOf};
+ghost use Rattle.fp_model.specs.Descriptor.{is_field_descriptor, kind_names, IsKindOf};
 ghost use Rattle.fp_model.specs.Entries.{passes, class_name_at, is_class_index, text_at};
-ghost use Rattle.fp_model.specs.Thin.{is_sound_field, is_thin_pool, IsThin};
 ghost use Rattle.fp_model.specs.Interning.{HasNoRoom, Interned};
+ghost use Rattle.fp_ops.specs.Checked.{is_short_entry};
+ghost use Rattle.fp_class.specs.ClassFile.{is_module, IsWellFormed};
 ghost use Rattle.fp_class.specs.Interning.{IsClassName, IsNamedField, IsParentName};
 ghost use Rattle.fp_class.specs.Memos.{IsMemo};
+ghost use Rattle.fp_class.specs.Naming.{is_sound_field, taken_names};
 
 use crate::memo::{Memo, empty_memo, keep_kind, keep_number, known_kind, known_number};
 use fp_base::{NameFault, Names};
 use fp_model::{Class, DescrFault, Entry, Field, Kind, Raw, RawMember, look_up, read_kind};
 use sqlite_items::{Items, at};
 use std::alloc::Global;
+
+/// The access flag of a module.
+const ACC_MODULE: u16 = 0x8000;
 
 /// The number of the text at an index, whatever is known of it.
 fn intern_text(
@@ -148,7 +153,7 @@ fn read_kind_at(
     index: u16,
     names: &mut Names,
 ) -> Result<Kind, NameFault>
-    requires pool { IsTrue (is_thin_pool entries.now) }
+    requires pool { IsTrue (list_all is_short_entry entries.now) }
     requires descr { passes is_field_descriptor (text_at entries.now index) ≡ true }
     ensures kind { IfOk result (IsKindOf names.new (unwrap_or (text_at entries.now index) [])) }
     ensures names { Interned result names.old names.new (kind_names (unwrap_or (text_at entries.now index) [])) }
@@ -167,7 +172,7 @@ fn kind_at(
     names: &mut Names,
     memo: &mut Memo,
 ) -> Result<Kind, NameFault>
-    requires pool { IsTrue (is_thin_pool entries.now) }
+    requires pool { IsTrue (list_all is_short_entry entries.now) }
     requires descr { passes is_field_descriptor (text_at entries.now index) ≡ true }
     requires memo { IsMemo names.old entries.now memo.old }
     ensures kind { IfOk result (IsKindOf names.new (unwrap_or (text_at entries.now index) [])) }
@@ -195,7 +200,7 @@ fn field(
     memo: &mut Memo,
 ) -> Result<Field, NameFault>
     requires memo { IsMemo names.old entries.now memo.old }
-    requires pool { IsTrue (is_thin_pool entries.now) }
+    requires pool { IsTrue (list_all is_short_entry entries.now) }
     requires sound { is_sound_field entries.now member.now ≡ true }
     ensures field { IfOk result (λ f. IsNamedField names.new entries.now f member.now) }
     ensures names { Interned result names.old names.new (field_names entries.now member.now) }
@@ -221,7 +226,7 @@ fn fields(
     memo: &mut Memo,
 ) -> Result<Items<Field>, NameFault>
     requires memo { IsMemo names.old entries.now memo.old }
-    requires pool { IsTrue (is_thin_pool entries.now) }
+    requires pool { IsTrue (list_all is_short_entry entries.now) }
     requires sound { IsTrue (list_all (is_sound_field entries.now) members.now) }
     ensures fields { IfOk result (λ fields. AllZip (IsNamedField names.new entries.now) fields members.now) }
     ensures names { Interned result names.old names.new (flat_map (field_names entries.now) members.now) }
@@ -239,7 +244,7 @@ fn fields(
 
 /// A class in numbers of the table.
 fn class(alloc: Global, raw: &Raw, names: &mut Names) -> Result<Class, NameFault>
-    requires { IsThin raw.now }
+    requires { IsWellFormed raw.now }
     ensures class { IfOk result (λ class. IsClassOf names.new class raw.now) }
     ensures names { Interned result names.old names.new (raw_names raw.now) }
 {
@@ -262,22 +267,26 @@ fn class(alloc: Global, raw: &Raw, names: &mut Names) -> Result<Class, NameFault
     })
 }
 
-/// The class of a thin class file, in numbers of the table; its texts are taken into the table.
+/// The class of a class file without methods, in numbers of the table; its texts are taken into the table.
 ///
-/// The class is there where the file is no module. On a fault the table may have grown.
+/// None for a module (JVMS SE 21 section 4.1), of which no text is taken. On a fault the table may have grown.
 pub fn to_class(alloc: Global, raw: &Raw, names: &mut Names) -> Result<Option<Class>, NameFault>
-    requires { IsThin raw.now }
+    requires formed { IsWellFormed raw.now }
+    requires methods { raw.now.methods ≡ [] }
     // It is the class of the file.
     ensures class { IfOk result (λ c. IfSome c (λ class. IsClassOf names.new class raw.now)) }
     // There is none exactly for a module.
-    ensures none { IfOk result (λ c. IsNone c ↔ (0x8000 ≤ raw.now.flags)) }
+    ensures none { IfOk result (λ c. IsNone c ↔ (is_module raw.now.flags ≡ true)) }
 
     // The table has each text of the class once, behind what it had.
-    ensures names { OnOk result (names.new ≡ with_names names.old (raw_names raw.now)) }
+    ensures names { OnOk result (names.new ≡ with_names names.old (taken_names raw.now)) }
     ensures grown { (more : List (List ℕ)) × (names.new ≡ names.old ++ more) }
     // It is full where it has no room for one of these texts.
-    ensures full { IsErrOf result NameFault.Full → HasNoRoom names.old names.new (raw_names raw.now) }
+    ensures full { IsErrOf result NameFault.Full → HasNoRoom names.old names.new (taken_names raw.now) }
 {
+    if raw.flags & ACC_MODULE != 0 {
+        return Ok(None);
+    }
     match class(alloc, raw, names) {
         Ok(class) => Ok(Some(class)),
         Err(fault) => Err(fault),

@@ -12,12 +12,12 @@ mod Refusals
 mod SmallSets
 mod Tables
 pub mod ArrayTypes
+pub mod Checking
 pub mod ElementTexts
 pub mod EndedNames
 pub mod Interned
 pub mod LongerTables
 pub mod Many
-pub mod OneClass
 pub mod MethodGrammar
 pub mod MethodKinds
 pub mod MethodParts

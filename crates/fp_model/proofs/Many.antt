@@ -22,7 +22,6 @@ many_at-end read count i at before e = let k : count - i ≡ 0 = omega arith in 
 
 -- a call that fails where a step does, fails where the loop does
 pub Fails-bind : {A B : Type 0} (e : FileFault) (read : Result A FileFault) (next : A → Result B FileFault) → Fails e read → Fails e (read >>= next)
-Fails-bind (fault.Unbuilt at) read next h = rw h refl
 Fails-bind (fault.Truncated at) read next h = rw h refl
 Fails-bind fault.Magic read next h = rw h refl
 Fails-bind (fault.Version major minor) read next h = rw h refl

@@ -11,7 +11,7 @@ use Rattle.fp_model.specs.declared.kind.Kind.TheVariants as kind
 use Rattle.fp_model.specs.declared.kind.Elem.{Elem}
 use Rattle.fp_model.specs.declared.kind.Elem.TheVariants as elem
 use Rattle.fp_model.specs.Descriptor.{dimensions, element_text, is_among, is_element, is_field_descriptor, is_proper, kind_text, text_of, IsKindOf}
-use Rattle.fp_model.specs.Classes.{kind_of_element}
+use Rattle.fp_model.specs.Kinds.{kind_of_element}
 use Rattle.fp_model.proofs.ArrayTypes.{dimensions-other, dimensions-replicate, is_field_descriptor-brackets}
 use Rattle.fp_model.proofs.ElementTexts.{name_parts}
 

@@ -7,7 +7,7 @@ use Rattle.std.proofs.lemmas.Nat.{be_bytes_2, be_bytes_4, be_bytes_8, from_be_by
 use Rattle.std.specs.List.{list_all, flat_map}
 use Rattle.std.specs.Int.{Width, w8, w16, w32, w64, byte_len, from_be_bytes}
 use Rattle.fp_model.specs.declared.fault.FileFault.{FileFault}
-use Rattle.fp_model.specs.Reading.{◌>>=◌, unbuilt, demanded, number_at, bytes_at, many_at, counted_at, nothing_at}
+use Rattle.fp_model.specs.Reading.{◌>>=◌, demanded, number_at, bytes_at, many_at, counted_at}
 use Rattle.fp_model.specs.Spelling.{u1, u2, u4, u8, counted, is_u2}
 use Rattle.fp_model.proofs.Takes.{Takes, Takes-nil, Takes-then, Takes-rest, Takes-first, Takes-run, Takes-room, Takes-text}
 
@@ -227,17 +227,3 @@ module _ {A : Type 0} (bytes : List ℕ) (form : A → Bool) (spelled : A → Li
   -- how many, and so many of one kind
   pub reads_counted : IsReader bytes (λ xs. is_u2 (length xs) && list_all form xs) (counted spelled) (counted_at read bytes)
   reads_counted = record { takes = counted_takes; again = counted_again }
-
--- a count of 0
-pub nothing_takes : (bytes : List ℕ) → IsBytes bytes → (at next : ℕ) → nothing_at bytes at ≡ Ok next → Takes bytes at (u2 0) next
-unfolding nothing_at
-nothing_takes bytes below at next e =
-    opened (number_at w16 bytes at) _ (λ count counts more.
-    opened (demanded (count.0 == 0) unbuilt) _ (λ u passed last.
-    let none : count.0 ≡ 0 = eqb-true count.0 0 (demanded-true (count.0 == 0) unbuilt passed) in
-    let end : count.1 ≡ next = cc in
-    subst (λ n. Takes bytes at (u2 n) next) none (subst (Takes bytes at (u2 count.0)) end ((reads_u2 bytes).takes below at count counts).1)) more) e
-
-pub nothing_again : (bytes : List ℕ) (at next : ℕ) → Takes bytes at (u2 0) next → nothing_at bytes at ≡ Ok next
-unfolding nothing_at
-nothing_again bytes at next p = stepped (number_at w16 bytes at) _ (0, next) ((reads_u2 bytes).again at 0 next refl p) refl

@@ -1,5 +1,4 @@
 pub mod Branches
-pub mod Classes
 pub mod ClassSet
 pub mod Decoding
 pub mod Descriptor
@@ -8,10 +7,10 @@ pub mod Limits
 pub mod Form
 pub mod Instructions
 pub mod Interning
+pub mod Kinds
 pub mod NamedInstructions
 pub mod Pool
 pub mod Reading
 pub mod References
 pub mod Spelling
 pub mod Taking
-pub mod Thin

@@ -4,10 +4,6 @@ use Rattle.std.specs.Int.{Width, w16, byte_len, from_be_bytes}
 use Rattle.fp_model.specs.declared.fault.FileFault.{FileFault}
 use Rattle.fp_model.specs.declared.fault.FileFault.TheVariants as fault
 
--- what the reader does not read yet
-abbrev pub unbuilt : FileFault
-unbuilt = fault.Unbuilt 0
-
 infixl 10 ◌>>=◌
 -- what a step gives goes to the next one, and the first fault is the answer
 abbrev pub ◌>>=◌ : {A B : Type 0} → Result A FileFault → (A → Result B FileFault) → Result B FileFault
@@ -60,10 +56,3 @@ unfoldable pub counted_at : {A : Type 0} → (ℕ → Result (A × ℕ) FileFaul
 counted_at read bytes at = do
   count ← number_at w16 bytes at
   many_at read count.0 [] count.1
-
--- a count of 0
-unfoldable pub nothing_at : List ℕ → ℕ → Result ℕ FileFault
-nothing_at bytes at = do
-  count ← number_at w16 bytes at
-  is_none ← demanded (count.0 == 0) unbuilt
-  Ok count.1

@@ -1,5 +1,4 @@
 pub mod instr;
-pub mod law;
 
 use crate::kind::{Descr, Kind};
 use instr::Instr;

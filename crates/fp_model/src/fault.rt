@@ -3,8 +3,6 @@ use std::alloc::{AllocError, AllocFailed};
 /// Why a file was refused. Each `at` is an offset in the file, in bytes.
 #[derive(Clone, Copy, Debug, PartialEq, Eq)]
 pub enum FileFault {
-    /// The file holds what the reader does not read yet.
-    Unbuilt { at: u32 },
     /// A number or a run of bytes doesn't lie whole in the file.
     Truncated { at: u32 },
     /// The file doesn't begin with the magic number (JVMS SE 21 section 4.1).

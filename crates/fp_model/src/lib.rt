@@ -13,7 +13,6 @@ mod raw;
 pub mod reading;
 
 pub use class::instr::{BootArg, BootRef, Instr};
-pub use class::law::law_one_class;
 pub use class::{Class, ClassId, Code, Field, FieldId, Guard, Method, MethodId, SiteId};
 pub use class_set::fault::SetFault;
 pub use class_set::{ClassSet, law_refused, law_sound};

@@ -1,6 +1,5 @@
 mod Again
-mod Checking
-mod Formed
+pub mod Formed
 mod Marks
 mod Slots
-mod Spelled
+pub mod Spelled

@@ -11,7 +11,7 @@ use Rattle.fp_base.specs.Files.{File, bytes_at, paths_of, class_paths, is_class_
 use Rattle.fp_top.specs.declared.refusal.Refusal.{Refusal}
 use Rattle.fp_top.specs.declared.refusal.Refusal.TheVariants as refusal
 use Rattle.fp_model.specs.ClassSet.{SetView}
-use Rattle.fp_model.specs.Thin.{class_of}
+use Rattle.fp_class.specs.ClassFile.{class_of}
 use Rattle.fp_words.specs.Words.{RunAsked}
 use Rattle.fp_top.specs.Outcome.{outcome, outcome_of_bytes, outcome_of_paths, outcome_of_read, outcome_of_run, outcome_of_sound}
 use Rattle.fp_top.specs.Words.{asked_of}
@@ -47,6 +47,7 @@ blames_reading dir file listed before mid now (refusal.Read path) alone below gr
     let gained : Gained before now (Reading (string_bytes path)) = rw is.0 (gained_later before mid now (Reading file) grows is.1) in
     inr (rw (alone, is.0) (0, lit< tt, refl), rw is.0 below, gained)
 blames_reading dir file listed before mid now (refusal.Unbuilt path at) alone below grows is = tt
+blames_reading dir file listed before mid now (refusal.File path why) alone below grows is = tt
 blames_reading dir file listed before mid now (refusal.Duplicate name) alone below grows is = tt
 blames_reading dir file listed before mid now (refusal.Cycle name) alone below grows is = tt
 blames_reading dir file listed before mid now (refusal.Selection item) alone below grows is = tt

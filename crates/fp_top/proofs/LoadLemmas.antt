@@ -46,6 +46,7 @@ says_count asked files dir paths (refusal.Read path) other is = tt
 says_count asked files dir [] (refusal.Unbuilt path at) other is = rw (is.0, is.1) refl
 says_count asked files dir (p ∷ []) (refusal.Unbuilt path at) other is = absurd (other refl)
 says_count asked files dir (p ∷ q ∷ ps) (refusal.Unbuilt path at) other is = rw (is.0, is.1) refl
+says_count asked files dir paths (refusal.File path why) other is = absurd is
 says_count asked files dir paths (refusal.Duplicate name) other is = absurd is
 says_count asked files dir paths (refusal.Cycle name) other is = absurd is
 says_count asked files dir paths (refusal.Selection item) other is = absurd is
@@ -81,6 +82,7 @@ says_long : (asked : RunAsked) (path bytes : List ℕ) (r : Refusal) → nat_lt 
 says_long asked path bytes refusal.Usage long is = absurd is
 says_long asked path bytes (refusal.Read named) long is = tt
 says_long asked path bytes (refusal.Unbuilt named at) long is = rw (long, is.0, is.1) refl
+says_long asked path bytes (refusal.File named why) long is = absurd is
 says_long asked path bytes (refusal.Duplicate name) long is = absurd is
 says_long asked path bytes (refusal.Cycle name) long is = absurd is
 says_long asked path bytes (refusal.Selection item) long is = absurd is

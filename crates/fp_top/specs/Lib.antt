@@ -1,3 +1,4 @@
+pub mod FaultTexts
 pub mod Outcome
 pub mod Refusal
 pub mod Runs

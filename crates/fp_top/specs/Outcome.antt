@@ -6,11 +6,13 @@ use Rattle.fp_base.specs.Files.{File, bytes_at, class_paths}
 use Rattle.fp_base.specs.Names.{with_names}
 use Rattle.fp_model.specs.declared.fault.FileFault.{FileFault}
 use Rattle.fp_model.specs.declared.raw.Raw.{Raw}
+use Rattle.fp_model.specs.declared.raw.RawMember.{RawMember}
 use Rattle.fp_model.specs.declared.limit.LimitName.{LimitName}
 use Rattle.fp_model.specs.declared.limit.LimitName.TheVariants.{Places}
 use Rattle.fp_model.specs.Limits.{limit_name_text}
-use Rattle.fp_model.specs.Thin.{class_of}
-use Rattle.fp_model.specs.Classes.{class_in, raw_names}
+use Rattle.fp_class.specs.ClassFile.{class_of, is_module}
+use Rattle.fp_class.specs.Classes.{class_in}
+use Rattle.fp_class.specs.Naming.{taken_names}
 use Rattle.fp_model.specs.ClassSet.{SetView, SetRefusal, refusal_of}
 use Rattle.fp_model.specs.ClassSet.SetRefusal.{Duplicate, SuperCycle}
 use Rattle.fp_eqs.specs.Solution.{solution}
@@ -22,6 +24,7 @@ use Rattle.fp_report.specs.Report.{report}
 use Rattle.fp_words.specs.Words.{RunAsked}
 use Rattle.fp_top.specs.declared.status.Status.{Status}
 use Rattle.fp_top.specs.declared.status.Status.TheVariants as status
+use Rattle.fp_top.specs.FaultTexts.{fault_text}
 use Rattle.fp_top.specs.Words.{asked_of}
 
 -- a report, line by line, or a refusal with its status and what it writes to err
@@ -37,6 +40,10 @@ usage_text = codes "usage: fpcf --analyses LIST --show LIST --workers N [--assum
 -- what is not read yet at a path, and where
 abbrev pub unbuilt_text : List ℕ → ℕ → List ℕ
 unbuilt_text path at = codes "refused: " ++ (path ++ (codes ": unbuilt at " ++ (decimal at ++ codes "\n")))
+
+-- a file at a path that is no class file, and its first fault
+abbrev pub fault_line : List ℕ → FileFault → List ℕ
+fault_line path fault = codes "refused: " ++ (path ++ (codes ": " ++ (fault_text fault ++ codes "\n")))
 
 -- two classes of one escaped name
 abbrev pub duplicate_text : List ℕ → List ℕ
@@ -88,20 +95,25 @@ outcome_of_set set asked (Some (Duplicate name)) = Refuse status.Refused (duplic
 outcome_of_set set asked (Some (SuperCycle name)) = Refuse status.Refused (cycle_text name)
 outcome_of_set set asked None = outcome_of_sound set asked
 
--- the set of the one class of a file, over the table of its texts
+-- the set of the class of a file, over the table of its texts; a module has no class
 abbrev pub set_of : Raw → SetView
 set_of raw =
-    let names = with_names [] (raw_names raw) in
-    record { classes = class_in names raw ∷ []; names = names }
+    let names = with_names [] (taken_names raw) in
+    record { classes = if is_module raw.flags then [] else class_in names raw ∷ []; names = names }
 
--- the outcome of a class file
+-- the outcome of a class file without methods
 abbrev pub outcome_of_raw : RunAsked → Raw → Outcome
 outcome_of_raw asked raw = outcome_of_set (set_of raw) asked (refusal_of (set_of raw))
 
--- a file that isn't read yet
+-- the outcome of a class file by its methods, which are not read yet
+abbrev pub outcome_of_methods : RunAsked → List ℕ → Raw → List RawMember → Outcome
+outcome_of_methods asked path raw [] = outcome_of_raw asked raw
+outcome_of_methods asked path raw (method ∷ methods) = Refuse status.Refused (unbuilt_text path 0)
+
+-- the outcome of a class file, or of the first fault
 abbrev pub outcome_of_read : RunAsked → List ℕ → Result Raw FileFault → Outcome
-outcome_of_read asked path (Ok raw) = outcome_of_raw asked raw
-outcome_of_read asked path (Err fault) = Refuse status.Refused (unbuilt_text path 0)
+outcome_of_read asked path (Ok raw) = outcome_of_methods asked path raw raw.methods
+outcome_of_read asked path (Err fault) = Refuse status.Refused (fault_line path fault)
 
 -- the outcome of a file's bytes
 abbrev pub outcome_of_bytes : RunAsked → List ℕ → List ℕ → Outcome

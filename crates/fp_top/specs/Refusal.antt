@@ -1,14 +1,16 @@
 -- Refusals of the code, and what they say of the outcome.
-use Rattle.std.specs.Prelude.{◌≡◌, ◌⊎◌, ℕ, Bool, true, List, Contains, Option, Some, None, string_bytes}
+use Rattle.std.specs.Prelude.{◌≡◌, ◌≢◌, ◌⊎◌, ℕ, Bool, true, List, Contains, Option, Some, None, string_bytes}
 use Rattle.fp_base.specs.Calls.{Call, Gained, Grows}
 use Rattle.fp_base.specs.Calls.Call.{Listing, Reading}
 use Rattle.fp_base.specs.Files.{File, is_class_file}
+use Rattle.fp_model.specs.declared.fault.FileFault.{FileFault}
+use Rattle.fp_model.specs.declared.fault.FileFault.TheVariants as fault
 use Rattle.fp_words.specs.Words.{RunAsked}
 use Rattle.fp_top.specs.declared.status.Status.{Status}
 use Rattle.fp_top.specs.declared.status.Status.TheVariants as status
 use Rattle.fp_top.specs.declared.refusal.Refusal.{Refusal}
 use Rattle.fp_top.specs.declared.refusal.Refusal.TheVariants as refusal
-use Rattle.fp_top.specs.Outcome.{Outcome, usage_text, unbuilt_text, duplicate_text, cycle_text, selection_text, limit_text, read_text, memory_text}
+use Rattle.fp_top.specs.Outcome.{Outcome, usage_text, unbuilt_text, fault_line, duplicate_text, cycle_text, selection_text, limit_text, read_text, memory_text}
 use Rattle.fp_top.specs.Outcome.Outcome.{Refuse}
 use Rattle.fp_top.specs.Words.{directory_of}
 
@@ -17,6 +19,7 @@ abbrev pub status_of : Refusal → Status
 status_of refusal.Usage = status.Usage
 status_of (refusal.Read path) = status.ReadFault
 status_of (refusal.Unbuilt path at) = status.Refused
+status_of (refusal.File path why) = status.Refused
 status_of (refusal.Duplicate name) = status.Refused
 status_of (refusal.Cycle name) = status.Refused
 status_of (refusal.Selection item) = status.Selection
@@ -28,6 +31,7 @@ abbrev pub text_of : Refusal → List ℕ
 text_of refusal.Usage = usage_text
 text_of (refusal.Read path) = read_text (string_bytes path)
 text_of (refusal.Unbuilt path at) = unbuilt_text (string_bytes path) at
+text_of (refusal.File path why) = fault_line (string_bytes path) why
 text_of (refusal.Duplicate escaped) = duplicate_text (string_bytes escaped)
 text_of (refusal.Cycle escaped) = cycle_text (string_bytes escaped)
 text_of (refusal.Selection item) = selection_text (string_bytes item)
@@ -56,6 +60,12 @@ abbrev pub IsUnbuilt : List ℕ → ℕ → Refusal → Type 0
 IsUnbuilt path at (refusal.Unbuilt named place) = (string_bytes named ≡ path) × (place ≡ at)
 IsUnbuilt path at refusal.Memory = Unit {0}
 IsUnbuilt path at _ = ⊥
+
+-- the refusal is of a file at a path, for a fault, or memory ran out
+abbrev pub IsFile : List ℕ → FileFault → Refusal → Type 0
+IsFile path why (refusal.File named told) = (string_bytes named ≡ path) × (told ≡ why) × (why ≢ fault.Memory)
+IsFile path why refusal.Memory = Unit {0}
+IsFile path why _ = ⊥
 
 -- the refusal is that a path could not be read, or memory ran out
 abbrev pub IsRead : List ℕ → Refusal → Type 0

@@ -1,11 +1,13 @@
-ghost use Rattle.std.specs.Prelude.{◌≡◌, ◌≤◌, None, [], ◌∷◌, length, IfOk, IfErr, OnOk};
+ghost use Rattle.std.specs.Prelude.{◌≡◌, ◌≤◌, ◌↔◌, true, IsNone, None, [], length, All, IfOk, IfErr, IfSome, OnOk};
+ghost use Rattle.std.specs.Option.{option_to_list};
 ghost use Rattle.fp_base.specs.Names.{with_names};
-ghost use Rattle.fp_model.specs.Thin.{class_of, IsThin};
-ghost use Rattle.fp_model.specs.Classes.{IsClassOf, raw_names};
+ghost use Rattle.fp_class.specs.ClassFile.{class_of, is_module, IsWellFormed};
+ghost use Rattle.fp_class.specs.Classes.{IsClassOf};
+ghost use Rattle.fp_class.specs.Naming.{taken_names};
 ghost use Rattle.fp_model.specs.ClassSet.{IsClassOver, AreFew, refusal_of};
 ghost use Rattle.fp_words.specs.Words.{RunAsked};
-ghost use Rattle.fp_top.specs.Outcome.{outcome_of_read, outcome_of_raw, outcome_of_sound};
-ghost use Rattle.fp_top.specs.Refusal.{Says, IsOfFile};
+ghost use Rattle.fp_top.specs.Outcome.{outcome_of_methods, outcome_of_raw, outcome_of_read, outcome_of_sound};
+ghost use Rattle.fp_top.specs.Refusal.{Says, IsFile, IsOfFile};
 ghost use Rattle.fp_top.specs.SetRefusal.{IsOfSet};
 
 use crate::load::unbuilt;
@@ -13,7 +15,7 @@ use crate::refusal::Refusal;
 use fp_base::{NameFault, Names};
 use fp_class::{read_class, to_class};
 use fp_model::{Class, ClassSet, FileFault, Raw, SetFault};
-use std::alloc::Global;
+use std::alloc::{AllocError, Global};
 
 /// The set of the class of a file.
 pub fn judge(alloc: Global, path: &str, bytes: &[u8]) -> Result<ClassSet, Refusal>
@@ -23,15 +25,41 @@ pub fn judge(alloc: Global, path: &str, bytes: &[u8]) -> Result<ClassSet, Refusa
     ensures own { IfErr result IsOfFile }
 {
     match read_class(alloc, bytes) {
-        Ok(raw) => judge_raw(alloc, &raw),
-        Err(FileFault::Memory) => Err(Refusal::Memory),
-        Err(_) => Err(unbuilt(alloc, path, 0)),
+        Ok(raw) => judge_file(alloc, path, &raw),
+        Err(fault) => Err(refused(alloc, path, fault)),
     }
 }
 
-/// The set of the class of a file that was read.
+/// That a file is no class file.
+fn refused(alloc: Global, path: &str, fault: FileFault) -> Refusal
+    ensures { IsFile path.now fault result }
+{
+    if fault == FileFault::Memory {
+        return Refusal::Memory;
+    }
+    match String::from_str(alloc, path) {
+        Ok(path) => Refusal::File { path, fault },
+        Err(_) => Refusal::Memory,
+    }
+}
+
+/// The set of the class of a class file. Methods are not read yet.
+fn judge_file(alloc: Global, path: &str, raw: &Raw) -> Result<ClassSet, Refusal>
+    requires { IsWellFormed raw.now }
+    ensures set { IfOk result (λ set. (asked : RunAsked) → outcome_of_methods asked path.now raw.now raw.now.methods ≡ outcome_of_sound set asked) }
+    ensures refusal { IfErr result (λ refusal. (asked : RunAsked) → Says (outcome_of_methods asked path.now raw.now raw.now.methods) refusal) }
+    ensures own { IfErr result IsOfFile }
+{
+    if raw.methods.len() != 0 {
+        return Err(unbuilt(alloc, path, 0));
+    }
+    judge_raw(alloc, raw)
+}
+
+/// The set of the class of a class file without methods.
 fn judge_raw(alloc: Global, raw: &Raw) -> Result<ClassSet, Refusal>
-    requires { IsThin raw.now }
+    requires formed { IsWellFormed raw.now }
+    requires methods { raw.now.methods ≡ [] }
     ensures set { IfOk result (λ set. (asked : RunAsked) → outcome_of_raw asked raw.now ≡ outcome_of_sound set asked) }
     ensures refusal { IfErr result (λ refusal. (asked : RunAsked) → Says (outcome_of_raw asked raw.now) refusal) }
     ensures own { IfErr result IsOfFile }
@@ -44,31 +72,42 @@ fn judge_raw(alloc: Global, raw: &Raw) -> Result<ClassSet, Refusal>
     set_of(alloc, class, names)
 }
 
-/// The class of a file, in numbers of an empty table of names.
-fn class_of_file(alloc: Global, raw: &Raw, names: &mut Names) -> Result<Class, Refusal>
-    requires thin { IsThin raw.now }
+/// The class of a file, in numbers of an empty table of names; a module has none.
+fn class_of_file(alloc: Global, raw: &Raw, names: &mut Names) -> Result<Option<Class>, Refusal>
+    requires formed { IsWellFormed raw.now }
+    requires methods { raw.now.methods ≡ [] }
     requires empty { names.old ≡ [] }
-    ensures class { IfOk result (λ class. IsClassOf names.new class raw.now) }
-    ensures names { OnOk result (names.new ≡ with_names [] (raw_names raw.now)) }
+    ensures class { IfOk result (λ c. IfSome c (λ class. IsClassOf names.new class raw.now)) }
+    ensures none { IfOk result (λ c. IsNone c ↔ (is_module raw.now.flags ≡ true)) }
+    ensures names { OnOk result (names.new ≡ with_names [] (taken_names raw.now)) }
     ensures memory { IfErr result (λ refusal. refusal ≡ Refusal.Memory) }
 {
     match to_class(alloc, raw, names) {
-        Ok(Some(class)) => Ok(class),
-        Ok(None) => unreachable!(),
+        Ok(class) => Ok(class),
         Err(NameFault::Full) => unreachable!(),
         Err(NameFault::Memory) => Err(Refusal::Memory),
     }
 }
 
-/// The set of one class.
-fn set_of(alloc: Global, class: Class, names: Names) -> Result<ClassSet, Refusal>
-    requires over { IsClassOver names class }
-    requires few { AreFew (class ∷ []) }
-    ensures set { IfOk result (λ set. set ≡ record { classes = class ∷ []; names = names }) }
-    ensures sound { OnOk result (refusal_of (record { classes = class ∷ []; names = names }) ≡ None) }
-    ensures refusal { IfErr result (λ refusal. IsOfSet (refusal_of (record { classes = class ∷ []; names = names })) refusal) }
+/// The class, if there is one, as a list.
+fn listed(alloc: Global, class: Option<Class>) -> Result<Vec<Class>, AllocError>
+    ensures { IfOk result (λ classes. classes.items ≡ option_to_list class) }
 {
-    let Ok(classes) = Vec::from_array(alloc, [class]) else {
+    match class {
+        Some(class) => Ok(Vec::from_array(alloc, [class])?),
+        None => Ok(Vec::new(alloc)),
+    }
+}
+
+/// The set of one class, or of none.
+fn set_of(alloc: Global, class: Option<Class>, names: Names) -> Result<ClassSet, Refusal>
+    requires over { All (IsClassOver names) (option_to_list class) }
+    requires few { AreFew (option_to_list class) }
+    ensures set { IfOk result (λ set. set ≡ record { classes = option_to_list class; names = names }) }
+    ensures sound { OnOk result (refusal_of (record { classes = option_to_list class; names = names }) ≡ None) }
+    ensures refusal { IfErr result (λ refusal. IsOfSet (refusal_of (record { classes = option_to_list class; names = names })) refusal) }
+{
+    let Ok(classes) = listed(alloc, class) else {
         return Err(Refusal::Memory);
     };
     match ClassSet::build(alloc, classes, names) {

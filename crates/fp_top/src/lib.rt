@@ -3,6 +3,7 @@
 
 mod analyse;
 mod decide;
+mod fault_text;
 mod judge;
 mod load;
 mod refusal;

@@ -2,7 +2,7 @@ ghost use Rattle.std.specs.Prelude.{◌≡◌, IfOk, string_bytes};
 ghost use Rattle.fp_top.specs.Refusal as spec;
 
 use crate::status::Status;
-use fp_model::LimitName;
+use fp_model::{FileFault, LimitName};
 use std::alloc::{AllocError, Global};
 
 /// Why there is no report.
@@ -14,6 +14,8 @@ pub enum Refusal {
     Read(String),
     /// What is at the path is not read yet, and where: an offset, or how many files there are.
     Unbuilt { path: String, at: u64 },
+    /// The file at the path is no class file.
+    File { path: String, fault: FileFault },
     /// Two classes have this escaped name.
     Duplicate(String),
     /// The class of this escaped name lies on a cycle of superclasses.
@@ -33,7 +35,10 @@ pub fn status_of(refusal: &Refusal) -> Status
     match refusal {
         Refusal::Usage => Status::Usage,
         Refusal::Read(_) => Status::ReadFault,
-        Refusal::Unbuilt { .. } | Refusal::Duplicate(_) | Refusal::Cycle(_) => Status::Refused,
+        Refusal::Unbuilt { .. }
+        | Refusal::File { .. }
+        | Refusal::Duplicate(_)
+        | Refusal::Cycle(_) => Status::Refused,
         Refusal::Selection(_) => Status::Selection,
         Refusal::Limit(..) => Status::Limit,
         Refusal::Memory => Status::Memory,

@@ -3,9 +3,10 @@ ghost use Rattle.fp_base.specs.Faults.{AppendsPart};
 ghost use Rattle.fp_top.specs.Outcome as outcome;
 ghost use Rattle.fp_top.specs.Refusal as spec;
 
+use crate::fault_text::fault_text;
 use crate::refusal::Refusal;
 use fp_base::Sink;
-use fp_model::LimitName;
+use fp_model::{FileFault, LimitName};
 use std::alloc::{AllocError, Global};
 
 /// What words that are not of the grammar are answered by.
@@ -29,6 +30,7 @@ fn text_of(alloc: Global, refusal: &Refusal) -> Result<String, AllocError>
         Refusal::Usage => String::from_str(alloc, USAGE),
         Refusal::Read(path) => format!(in alloc; "read fault: {path}\n"),
         Refusal::Unbuilt { path, at } => { format!(in alloc; "refused: {path}: unbuilt at {at}\n") }
+        Refusal::File { path, fault } => fault_line(alloc, path.as_str(), *fault),
         Refusal::Duplicate(name) => format!(in alloc; "refused: duplicate {name}\n"),
         Refusal::Cycle(name) => format!(in alloc; "refused: cycle {name}\n"),
         Refusal::Selection(item) => format!(in alloc; "selection: {item}\n"),
@@ -43,4 +45,14 @@ fn limit_text(alloc: Global, name: LimitName, most: u64) -> Result<String, Alloc
 {
     let name = name.text();
     format!(in alloc; "limit: {name} {most}\n")
+}
+
+/// What a file that is no class file writes to err.
+fn fault_line(alloc: Global, path: &str, fault: FileFault) -> Result<String, AllocError>
+    ensures { IfOk result (λ text. string_bytes text ≡ outcome.fault_line path.now fault) }
+{
+    match fault_text(alloc, fault) {
+        Ok(fault) => format!(in alloc; "refused: {path}: {fault}\n"),
+        Err(error) => Err(error),
+    }
 }

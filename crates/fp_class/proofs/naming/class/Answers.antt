@@ -2,19 +2,19 @@ use Rattle.std.proofs.Common.{not, Ok, Err, refl, subst}
 use Rattle.std.proofs.lemmas.Result.{err_from_is_err_and}
 use Rattle.std.specs.List.{flat_map}
 use Rattle.std.specs.Option.{option_to_list}
-use Rattle.fp_model.specs.Classes.{field_names}
+use Rattle.fp_class.specs.Classes.{field_names}
 use Rattle.fp_model.specs.Descriptor.{is_array_like}
 use Rattle.fp_model.specs.Entries.{class_name_at}
 use Rattle.fp_model.specs.Interning.{Interned}
-use Rattle.fp_class.proofs.Conditions.{sound_of, passes-is_some}
-use Rattle.fp_class.proofs.NamedParts.{class_over, texts_whole}
+use Rattle.fp_class.proofs.Facts.{facts_of}
+use Rattle.fp_class.proofs.NamedParts.{class_over, passes-is_some, texts_whole}
 use Rattle.fp_model.proofs.Interned.{after_one, after_two, after_three, all_four, kept_by}
 use Rattle.fp_class.proofs.naming.class.Goals as goal
 
 pub class_name-requires-clause-there : goal.class_name-requires-clause-there
 class_name-requires-clause-there c =
     rw c.as_slice-entries.ensures
-    (passes-is_some (λ name. not (is_array_like name)) (class_name_at c.args.raw.now.pool.entries c.args.raw.now.this) (sound_of c.args.raw.now c.requires.sound).this)
+    (passes-is_some (λ name. not (is_array_like name)) (class_name_at c.args.raw.now.pool.entries c.args.raw.now.this) (facts_of c.args.raw.now c.requires).this)
 
 pub returns-in_err-parent-clause-names : goal.returns-in_err-parent-clause-names
 returns-in_err-parent-clause-names c =
@@ -24,6 +24,9 @@ returns-in_err-parent-clause-names c =
     (texts_whole c.args.raw.now c.as_slice-entries.result.now c.args.raw.now.interfaces c.args.raw.now.fields c.as_slice-entries.ensures refl refl)
     (after_one c.in_err-parent.field-0.0 c.args.names.now c.class_name.new.names c.parent_name.new.names _ _ _ c.in_ok-this.ensures.names.names c.in_err-parent.ensures.names))
 
+pub class_names-requires-clause-classes : goal.class_names-requires-clause-classes
+class_names-requires-clause-classes c = rw (c.as_slice-entries.ensures, c.as_slice.ensures) (facts_of c.args.raw.now c.requires).interfaces
+
 pub returns-in_err-interfaces-clause-names : goal.returns-in_err-interfaces-clause-names
 returns-in_err-interfaces-clause-names c =
     let p = err_from_is_err_and c.from_residual-in_err-interfaces.result c.from_residual-in_err-interfaces.ensures.1 in
@@ -32,8 +35,11 @@ returns-in_err-interfaces-clause-names c =
     (texts_whole c.args.raw.now c.as_slice-entries.result.now c.as_slice.result.now c.args.raw.now.fields c.as_slice-entries.ensures c.as_slice.ensures refl)
     (after_two c.in_err-interfaces.field-0.0 c.args.names.now c.class_name.new.names c.parent_name.new.names c.class_names.new.names _ _ _ _ c.in_ok-this.ensures.names.names c.in_ok-parent.ensures.names.names c.in_err-interfaces.ensures.names))
 
+pub fields-requires-clause-pool : goal.fields-requires-clause-pool
+fields-requires-clause-pool c = rw c.as_slice-entries.ensures (facts_of c.args.raw.now c.requires).checked.short
+
 pub fields-requires-clause-sound : goal.fields-requires-clause-sound
-fields-requires-clause-sound c = rw (c.as_slice-entries.ensures, c.as_slice-2.ensures) (sound_of c.args.raw.now c.requires.sound).fields
+fields-requires-clause-sound c = rw (c.as_slice-entries.ensures, c.as_slice-2.ensures) (facts_of c.args.raw.now c.requires).fields
 
 pub returns-in_err-fields-clause-names : goal.returns-in_err-fields-clause-names
 returns-in_err-fields-clause-names c =

@@ -1,7 +1,7 @@
 use Rattle.std.proofs.Common.{◌<◌, ◌∷◌, [], length, take, ◌+◌, ◌++◌, sym, ◌∙◌, arith}
 use Rattle.std.proofs.lemmas.Result.{err_from_is_err_and}
 use Rattle.std.specs.List.{flat_map}
-use Rattle.fp_model.specs.Classes.{field_names}
+use Rattle.fp_class.specs.Classes.{field_names}
 use Rattle.fp_class.specs.Interning.{IsNamedField}
 use Rattle.fp_class.proofs.NamedParts.{AllZip-to, AllZip-more, IsNamedField-kept}
 use Rattle.fp_model.proofs.Interned.{interned_lost, kept_by}

@@ -1,7 +1,7 @@
 use Rattle.std.proofs.Common.{◌≡◌, take}
 use Rattle.std.specs.List.{flat_map, AllZip}
 use Rattle.fp_base.specs.Names.{with_names}
-use Rattle.fp_model.specs.Classes.{field_names}
+use Rattle.fp_class.specs.Classes.{field_names}
 use Rattle.fp_class.specs.Interning.{IsNamedField}
 use Rattle.fp_class.specs.Memos.{IsMemo}
 use Rattle.fp_class.proofs.naming.fields.Given as goal

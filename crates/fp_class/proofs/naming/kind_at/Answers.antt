@@ -1,8 +1,8 @@
 use Rattle.std.proofs.Common.{sym}
 use Rattle.fp_model.specs.Descriptor.{is_field_descriptor}
 use Rattle.fp_model.specs.Entries.{text_at}
-use Rattle.fp_class.proofs.Conditions.{passes-is_some}
 use Rattle.fp_class.proofs.Memos.{kind_told, kind_interned, kind_within, kind_noted}
+use Rattle.fp_class.proofs.NamedParts.{passes-is_some}
 use Rattle.fp_class.proofs.naming.kind_at.Goals as goal
 
 pub returns-in-Some-clause-kind : goal.returns-in-Some-clause-kind

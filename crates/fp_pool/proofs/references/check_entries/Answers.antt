@@ -3,7 +3,7 @@ use Rattle.std.proofs.lemmas.Result.{err_from_is_err_and}
 use Rattle.fp_model.specs.Reading.{Fails}
 use Rattle.fp_model.specs.References.{entry_checked}
 use Rattle.fp_model.specs.Spelling.{spelled_entry}
-use Rattle.fp_pool.proofs.Checking.{each-next, each-end, each-fails, each-size}
+use Rattle.fp_model.proofs.Checking.{each-next, each-end, each-fails, each-size}
 use Rattle.fp_pool.proofs.references.check_entries.Goals as goal
 
 pub loop-entry-preserved : goal.loop-entry-preserved
