@@ -131,7 +131,7 @@ module _ {A : Type 0} (form : A → Bool) (read : List A → ℕ → Result (A �
         formed = and_from (form y.0) (list_all form adds.more) (one before at y ey) adds.formed;
       }) e
 
-  counted_formed : (bytes : List ℕ) → IsBytes bytes → (at : ℕ) (x : List A × ℕ) → counted_after read bytes at ≡ Ok x → (is_u2 (length x.0) ≡ true) × (list_all form x.0 ≡ true)
+  pub counted_formed : (bytes : List ℕ) → IsBytes bytes → (at : ℕ) (x : List A × ℕ) → counted_after read bytes at ≡ Ok x → (is_u2 (length x.0) ≡ true) × (list_all form x.0 ≡ true)
   unfolding counted_after
   counted_formed bytes below at x e =
       opened (number_at w16 bytes at) _ (λ count counts rest.

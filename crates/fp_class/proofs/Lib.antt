@@ -5,12 +5,16 @@ pub mod Marks
 pub mod MemberSpelled
 pub mod Memos
 pub mod MemberTexts
+mod LongerInstrs
+mod NamedCode
 mod NamedParts
 mod Numberings
 mod Seen
+pub mod SoundCodes
 pub mod Skipped
 pub mod OneClass
 pub mod Phases
 pub mod Sorts
 mod Tables
+mod TakenTexts
 mod Walks

@@ -1,21 +1,20 @@
 -- What is read as a field or a method has texts as its name and its descriptor.
-use Rattle.std.proofs.Common.{◌≡◌, ℕ, true, ◌&&◌, ◌==◌, Bool, List, [], ◌∷◌, ◌++◌, length, Result, Ok, Err, refl, sym, ap, ◌∙◌, subst}
+use Rattle.std.proofs.Common.{◌≡◌, ℕ, true, ◌==◌, Bool, List, [], ◌∷◌, ◌++◌, length, Ok, refl, subst}
 use Rattle.std.proofs.lemmas.Bool.{and_from, and_parts}
 use Rattle.std.specs.List.{list_all}
 use Rattle.std.specs.Int.{w16}
-use Rattle.fp_model.specs.declared.fault.FileFault.{FileFault}
 use Rattle.fp_model.specs.declared.fault.FileFault.TheVariants as fault
 use Rattle.fp_model.specs.declared.raw.pool.Entry.{Entry}
 use Rattle.fp_model.specs.declared.raw.RawMember.{RawMember}
 use Rattle.fp_model.specs.Descriptor.{is_field_descriptor}
-use Rattle.fp_model.specs.Entries.{tag_at, text_at}
+use Rattle.fp_model.specs.Entries.{tag_at}
 use Rattle.fp_model.specs.Reading.{counted_at, demanded, number_at}
-use Rattle.fp_model.specs.References.{described, tagged, text_checked}
+use Rattle.fp_model.specs.References.{tagged, text_checked}
 use Rattle.fp_model.proofs.Readers.{demanded-true, opened}
 use Rattle.fp_attr.specs.Attributes.{attribute_at}
 use Rattle.fp_attr.specs.declared.owner.Owner.TheVariants as owner
 use Rattle.fp_class.specs.Keys.{has_texts}
-use Rattle.fp_class.specs.Members.{argument_words, code_count, field_at, is_new, is_type_of, method_at, name_at, wanted_codes, words_at}
+use Rattle.fp_class.specs.Members.{code_count, field_at, is_new, is_type_of, method_at, name_at, wanted_codes, words_at}
 
 text_there : (entries : List Entry) (test : List ℕ → Bool) (at index : ℕ) {u : Unit {0}} → text_checked entries test at index ≡ Ok u → (tag_at entries index == 1) ≡ true
 unfolding text_checked

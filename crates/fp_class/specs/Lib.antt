@@ -6,5 +6,7 @@ pub mod Keys
 pub mod Layout
 pub mod Members
 pub mod Memos
+pub mod MethodCode
+pub mod Methods
 pub mod Naming
 pub mod Texts

@@ -1,5 +1,5 @@
 -- What is known of the texts of a constant pool, by index.
-use Rattle.std.specs.Prelude.{◌≡◌, ℕ, List, map, Option, Some, None, option_and_then}
+use Rattle.std.specs.Prelude.{◌≡◌, ℕ, List, map, Option, Some, option_and_then}
 use Rattle.fp_model.specs.declared.raw.pool.Entry.{Entry}
 use Rattle.fp_model.specs.Descriptor.{parameter_words}
 use Rattle.fp_model.specs.Entries.{text_at, text_in}

@@ -16,12 +16,12 @@ ghost use Rattle.fp_class.specs.ClassFile.{boot_number_checked, boots_of, class_
 
 use crate::layout::{Layout, lay_out};
 use crate::members::{fields, methods};
-use crate::texts::{Texts, read_texts};
+use crate::texts::read_texts;
 use fp_attr::{Owner, read_attr};
 use fp_model::look_up::{class_name, is_class};
 use fp_model::reading::u16_at;
-use fp_model::{BootRow, Entry, FileFault, Pool, Raw, RawAttr, RawBody};
-use fp_pool::check_references;
+use fp_model::{Entry, FileFault, Pool, Raw, RawAttr, RawBody};
+use fp_pool::{check_references, entry_size};
 use sqlite_items::Items;
 use std::alloc::Global;
 
@@ -150,25 +150,6 @@ fn count_boots(attributes: &[RawAttr]) -> usize
         }
     }
     0
-}
-
-/// How many bytes an entry of the constant pool takes.
-fn entry_size(entry: &Entry) -> u32
-    requires { length (spelled_entry entry.now) < 2 ^ 32 }
-    ensures { result ≡ length (spelled_entry entry.now) }
-{
-    match entry {
-        Entry::Unused => 0,
-        Entry::Utf8(text) => 3 + text.len() as u32,
-        Entry::Long(_) | Entry::Double(_) => 9,
-        Entry::Handle { .. } => 4,
-        Entry::Class(_)
-        | Entry::Text(_)
-        | Entry::MethodType(_)
-        | Entry::Module(_)
-        | Entry::Package(_) => 3,
-        _ => 5,
-    }
 }
 
 /// Checks that a constant that a bootstrap method computes has a row; it is spelled at an offset.

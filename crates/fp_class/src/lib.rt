@@ -1,6 +1,7 @@
 //! Reads a class file (JVMS SE 21 chapter 4).
 #![tactic(auto)]
 
+mod code;
 mod descriptors;
 mod file;
 mod law;
@@ -11,9 +12,12 @@ mod naming;
 mod numbers;
 mod texts;
 
+pub use code::to_code;
 pub use file::read_class;
-pub use law::{law_one_class, law_spelling};
+pub use law::{law_one_class, law_sound_codes, law_spelling};
 pub use naming::to_class;
 
+#[cfg(test)]
+mod code_tests;
 #[cfg(test)]
 mod tests;

@@ -8,4 +8,4 @@ mod Referred
 mod AskedOperands
 mod ShortTargets
 mod GivenForms
-mod DecodedCode
+pub mod DecodedCode

@@ -11,7 +11,7 @@ mod sorts;
 pub use cut::cut_pool;
 pub use laws::law_spelled_pool;
 pub use reader::read_pool;
-pub use references::check_references;
+pub use references::{check_references, entry_size};
 
 #[cfg(test)]
 mod tests;

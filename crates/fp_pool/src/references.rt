@@ -43,13 +43,13 @@ fn check_entries(entries: &[Entry], marks: &[Option<Sorts>], at: u32) -> Result<
     let mut next = at;
     for entry in entries {
         check_entry(entries, marks, next, entry)?;
-        next += size_of(entry);
+        next += entry_size(entry);
     }
     Ok(())
 }
 
-/// How many bytes an entry takes in the file.
-fn size_of(entry: &Entry) -> u32
+/// How many bytes an entry takes in a file (JVMS SE 21 section 4.4).
+pub fn entry_size(entry: &Entry) -> u32
     requires { length (spelled_entry entry.now) < 2 ^ 32 }
     ensures { result ≡ length (spelled_entry entry.now) }
 {

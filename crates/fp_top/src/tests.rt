@@ -1,12 +1,13 @@
 ghost use Rattle.std.specs.Prelude.{◌≡◌, [], IfOk};
 ghost use Rattle.fp_model.specs.ClassSet.{IsClassOver};
 
+use crate::fault_text::fault_text;
 use crate::report::put_report;
 use crate::solve::solve;
 use crate::words::job_of;
 use crate::{Status, analyse_one};
 use fp_base::{MemDir, MemSink, Names, has_distinct_calls, has_distinct_paths};
-use fp_model::{Class, ClassSet};
+use fp_model::{Class, ClassSet, FileFault};
 use sqlite_items::Items;
 use std::alloc::{AllocError, Global};
 use std::process::Abort;
@@ -30,6 +31,22 @@ const WITH_METHOD: [u8; 97] = [
     0x00, 0x00, 0x00, 0x01, 0x00, 0x09, 0x00, 0x05, 0x00, 0x06, 0x00, 0x01, 0x00, 0x07, 0x00, 0x00,
     0x00, 0x0D, 0x00, 0x02, 0x00, 0x00, 0x00, 0x00, 0x00, 0x01, 0xB1, 0x00, 0x00, 0x00, 0x00, 0x00,
     0x00,
+];
+
+/// A class A with two fields x of type int.
+const TWO_FIELDS: [u8; 77] = [
+    0xCA, 0xFE, 0xBA, 0xBE, 0x00, 0x00, 0x00, 0x34, 0x00, 0x07, 0x01, 0x00, 0x01, 0x41, 0x07, 0x00,
+    0x01, 0x01, 0x00, 0x10, 0x6A, 0x61, 0x76, 0x61, 0x2F, 0x6C, 0x61, 0x6E, 0x67, 0x2F, 0x4F, 0x62,
+    0x6A, 0x65, 0x63, 0x74, 0x07, 0x00, 0x03, 0x01, 0x00, 0x01, 0x78, 0x01, 0x00, 0x01, 0x49, 0x00,
+    0x21, 0x00, 0x02, 0x00, 0x04, 0x00, 0x00, 0x00, 0x02, 0x00, 0x10, 0x00, 0x05, 0x00, 0x06, 0x00,
+    0x00, 0x00, 0x10, 0x00, 0x05, 0x00, 0x06, 0x00, 0x00, 0x00, 0x00, 0x00, 0x00,
+];
+
+/// A module without an attribute.
+const MODULE: [u8; 41] = [
+    0xCA, 0xFE, 0xBA, 0xBE, 0x00, 0x00, 0x00, 0x35, 0x00, 0x03, 0x01, 0x00, 0x0B, 0x6D, 0x6F, 0x64,
+    0x75, 0x6C, 0x65, 0x2D, 0x69, 0x6E, 0x66, 0x6F, 0x07, 0x00, 0x01, 0x80, 0x00, 0x00, 0x02, 0x00,
+    0x00, 0x00, 0x00, 0x00, 0x00, 0x00, 0x00, 0x00, 0x00,
 ];
 
 const WORDS: [&str; 7] = [
@@ -113,13 +130,14 @@ fn run(
 }
 
 #[test]
-fn reports_a_thin_class_and_refuses_what_is_none(rt: HostRuntime) -> Result<(), Fail> {
+fn reports_a_class_and_refuses_what_is_none(rt: HostRuntime) -> Result<(), Fail> {
     let alloc = rt.alloc();
     let not_final = changed(alloc, &A_FINAL, 58, 0x00)?;
     let other_parent = changed(alloc, &A_FINAL, 35, b'u')?;
     let own_parent = changed(alloc, &A_FINAL, 52, 0x02)?;
-    let unbuilt = "refused: d/A.class: unbuilt at 0\n";
-    let cases: [(&[u8], Status, &str, &str); 6] = [
+    let mut with_byte = Vec::from_slice(alloc, &A_FINAL)?;
+    with_byte.push(0)?;
+    let cases: [(&[u8], Status, &str, &str); 9] = [
         (&A_FINAL, Status::Done, "declared A final\ncells 1\n", ""),
         (
             not_final.as_slice(),
@@ -133,8 +151,31 @@ fn reports_a_thin_class_and_refuses_what_is_none(rt: HostRuntime) -> Result<(), 
             "declared A open\ncells 1\n",
             "",
         ),
-        (&WITH_METHOD, Status::Refused, "", unbuilt),
-        (&A_FINAL[..4], Status::Refused, "", unbuilt),
+        (&MODULE, Status::Done, "cells 0\n", ""),
+        (
+            &WITH_METHOD,
+            Status::Refused,
+            "",
+            "refused: d/A.class: unbuilt at 0\n",
+        ),
+        (
+            &A_FINAL[..4],
+            Status::Refused,
+            "",
+            "refused: d/A.class: truncated at 4\n",
+        ),
+        (
+            with_byte.as_slice(),
+            Status::Refused,
+            "",
+            "refused: d/A.class: trailing at 69\n",
+        ),
+        (
+            &TWO_FIELDS,
+            Status::Refused,
+            "",
+            "refused: d/A.class: repeat at 65\n",
+        ),
         (
             own_parent.as_slice(),
             Status::Refused,
@@ -150,6 +191,73 @@ fn reports_a_thin_class_and_refuses_what_is_none(rt: HostRuntime) -> Result<(), 
         assert_eq!(rt; ending.status, status);
         assert_eq!(rt; ending.out.as_slice(), out.as_bytes());
         assert_eq!(rt; ending.err.as_slice(), err.as_bytes());
+    }
+    Ok(())
+}
+
+#[test]
+fn refuses_a_file_of_which_one_byte_is_another(rt: HostRuntime) -> Result<(), Fail> {
+    let alloc = rt.alloc();
+    let cases: [(&[u8], usize, u8, &str); 11] = [
+        (&A_FINAL, 0, 0xCB, "magic"),
+        (&A_FINAL, 5, 0x03, "version 52.3"),
+        (&A_FINAL, 7, 0x31, "version 49.0"),
+        (&A_FINAL, 7, 0x42, "version 66.0"),
+        (&A_FINAL, 14, 0x02, "tag 2 at 14"),
+        (&A_FINAL, 50, 0x01, "index 1 at 49"),
+        (&A_FINAL, 46, b'Q', "descriptor at 61"),
+        (&A_FINAL, 68, 0x01, "truncated at 69"),
+        (&WITH_METHOD, 68, 0x01, "code count method 0"),
+        (&WITH_METHOD, 73, 0x09, "index 9 at 72"),
+        (&WITH_METHOD, 90, 0xCB, "opcode 203 at 90"),
+    ];
+    for (bytes, at, byte, fault) in cases {
+        let mut files = Vec::new(alloc);
+        let bytes = changed(alloc, bytes, at, byte)?;
+        files.push(file(alloc, "d/A.class", &bytes)?)?;
+        let ending = run(&rt, alloc, &WORDS, files, Vec::new(alloc), Vec::new(alloc))?;
+        let err = format!(in alloc; "refused: d/A.class: {fault}\n")?;
+        assert_eq!(rt; ending.status, Status::Refused);
+        assert_eq!(rt; ending.err.as_slice(), err.as_bytes());
+        assert!(rt; ending.out.is_empty());
+    }
+    Ok(())
+}
+
+#[test]
+fn tells_each_fault_of_a_file_in_its_words(rt: HostRuntime) -> Result<(), Fail> {
+    let alloc = rt.alloc();
+    let cases: [(FileFault, &str); 12] = [
+        (FileFault::Truncated { at: 4 }, "truncated at 4"),
+        (FileFault::Magic, "magic"),
+        (
+            FileFault::Version {
+                major: 49,
+                minor: 3,
+            },
+            "version 49.3",
+        ),
+        (FileFault::Tag { at: 10, tag: 255 }, "tag 255 at 10"),
+        (
+            FileFault::Index {
+                at: 4_294_967_295,
+                index: 65_535,
+            },
+            "index 65535 at 4294967295",
+        ),
+        (FileFault::Descriptor { at: 0 }, "descriptor at 0"),
+        (
+            FileFault::Opcode { at: 100, byte: 203 },
+            "opcode 203 at 100",
+        ),
+        (FileFault::Subroutine { at: 90 }, "subroutine at 90"),
+        (FileFault::Bounds { at: 8 }, "bounds at 8"),
+        (FileFault::CodeCount { method: 12 }, "code count method 12"),
+        (FileFault::Repeat { at: 65 }, "repeat at 65"),
+        (FileFault::Trailing { at: 69 }, "trailing at 69"),
+    ];
+    for (fault, text) in cases {
+        assert_eq!(rt; fault_text(alloc, fault)?.as_bytes(), text.as_bytes());
     }
     Ok(())
 }

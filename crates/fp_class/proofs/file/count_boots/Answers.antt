@@ -1,4 +1,4 @@
-use Rattle.std.proofs.Common.{◌≡◌, ◌+◌, ◌∷◌, length, drop, sym, ap, ◌∙◌}
+use Rattle.std.proofs.Common.{◌+◌, length, drop, sym, ap, ◌∙◌}
 use Rattle.fp_model.proofs.Checking.{next_item}
 use Rattle.fp_class.specs.ClassFile.{boots_of, rows_or}
 use Rattle.fp_class.proofs.file.count_boots.Goals as goal

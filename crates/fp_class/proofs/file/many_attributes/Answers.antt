@@ -3,7 +3,7 @@ use Rattle.std.specs.List.{list_any}
 use Rattle.std.proofs.lemmas.List.Folds.{list_any-append}
 use Rattle.std.proofs.lemmas.Result.{err_from_is_err_and}
 use Rattle.fp_model.specs.Reading.{Fails}
-use Rattle.fp_class.specs.ClassFile.{are_boots, class_attribute_at, class_owner}
+use Rattle.fp_class.specs.ClassFile.{are_boots, class_attribute_at}
 use Rattle.fp_class.proofs.Walks.{many_after-next, many_after-end, Fails-many_after}
 use Rattle.fp_attr.specs.Attributes.{attribute_at}
 use Rattle.fp_class.proofs.file.many_attributes.Goals as goal

@@ -1,4 +1,4 @@
-use Rattle.std.proofs.Common.{◌≡◌, ◌-◌, [], length, IsTrue}
+use Rattle.std.proofs.Common.{◌≡◌, ◌-◌, [], IsTrue}
 use Rattle.std.specs.List.{list_all}
 use Rattle.std.specs.BTreeSet.{contains}
 use Rattle.fp_class.specs.declared.numbers.Key.{Key}

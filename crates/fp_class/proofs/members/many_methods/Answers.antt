@@ -1,10 +1,8 @@
-use Rattle.std.proofs.Common.{◌≡◌, ◌+◌, Ok, true, [], ◌∷◌, ◌++◌, length, refl, sym, ◌∙◌, ap, subst, arith, length-append}
-use Rattle.std.specs.List.{list_all}
-use Rattle.std.proofs.lemmas.Bool.{and_from}
+use Rattle.std.proofs.Common.{◌≡◌, ◌+◌, Ok, [], ◌∷◌, ◌++◌, sym, ◌∙◌, ap, subst, arith, length-append}
 use Rattle.std.proofs.lemmas.Result.{err_from_is_err_and}
 use Rattle.fp_model.specs.Reading.{Fails}
 use Rattle.std.specs.BTreeSet.{contains}
-use Rattle.fp_class.specs.Keys.{has_key, has_texts, key_cmp}
+use Rattle.fp_class.specs.Keys.{has_key, key_cmp}
 use Rattle.fp_class.specs.Members.{method_at}
 use Rattle.fp_class.proofs.MemberTexts.{method_texts, all_texts}
 use Rattle.fp_class.proofs.Walks.{many_after-next, many_after-end, Fails-many_after}

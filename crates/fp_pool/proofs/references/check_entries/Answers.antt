@@ -9,10 +9,10 @@ use Rattle.fp_pool.proofs.references.check_entries.Goals as goal
 pub loop-entry-preserved : goal.loop-entry-preserved
 loop-entry-preserved c =
     let within : c.loop-entry.entry-index < length c.args.entries.now = omega arith in (
-      rw c.size_of-next.ensures
+      rw c.entry_size-next.ensures
           (sym (each-next spelled_entry (entry_checked c.args.entries.now) c.args.entries.now c.loop-entry.entry-index c.loop-entry.next c.entry-item.result within c.entry-item.is c.in_ok-check_entry.ensures)
           ∙ c.loop-entry.invariant.0),
-      omega (arith, c.size_of-next.ensures, c.loop-entry.invariant.1, each-size spelled_entry (entry_checked c.args.entries.now) c.args.entries.now c.loop-entry.entry-index c.loop-entry.next c.entry-item.result within c.entry-item.is),
+      omega (arith, c.entry_size-next.ensures, c.loop-entry.invariant.1, each-size spelled_entry (entry_checked c.args.entries.now) c.args.entries.now c.loop-entry.entry-index c.loop-entry.next c.entry-item.result within c.entry-item.is),
     )
 
 pub returns : goal.returns
