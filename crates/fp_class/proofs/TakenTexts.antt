@@ -10,11 +10,7 @@ use Rattle.fp_model.specs.Taking.{Taken}
 use Rattle.fp_model.proofs.Taking.{taken_ok, taken_stop}
 
 pub taken_of : {X : Type 0} (result : Result X NameFault) (old new texts : List (List ℕ)) → Interned result old new texts → Taken result old new texts
-taken_of result old new texts is = record { names = is.names; grown = is.grown; full = λ e. (is.full e).lacks }
-
--- a call that failed before others, which don't come to pass
-pub taken_first : {X Y : Type 0} (f : NameFault) (old new a b : List (List ℕ)) → Taken {X = X} (Err f) old new a → Taken {X = Y} (Err f) old new (a ++ b)
-taken_first {X} {Y} f old new a b stopped = taken_stop {X = X} {Y = Y} f old old new [] a b refl stopped
+taken_of result old new texts is = record { names = is.names; grown = is.grown; full = λ e. (is.full e).lacks; many = λ e. (is.full e).many }
 
 -- one that failed behind those before it in a list
 pub one_stops : {A X Y : Type 0} (texts : A → List (List ℕ)) (xs : List A) (i : ℕ) (x : A) (f : NameFault) (old mid new : List (List ℕ)) → i < length xs → x ≡ get_or xs i x → mid ≡ with_names old (flat_map texts (take i xs)) → Taken {X = X} (Err f) mid new (texts x) → Taken {X = Y} (Err f) old new (flat_map texts xs)

@@ -8,6 +8,7 @@ use Rattle.fp_model.specs.declared.fault.FileFault.TheVariants as fault
 use Rattle.fp_model.specs.declared.raw.pool.Entry.{Entry}
 use Rattle.fp_model.specs.declared.raw.RawMember.{RawMember}
 use Rattle.fp_model.specs.Descriptor.{is_field_descriptor, is_method_descriptor, parameter_words}
+use Rattle.fp_model.specs.Flags.{is_static}
 use Rattle.fp_model.specs.Entries.{text_at}
 use Rattle.fp_model.specs.Reading.{behind, counted_at, demanded, number_at, ◌>>=◌}
 use Rattle.fp_model.specs.References.{tagged, text_checked}
@@ -53,10 +54,7 @@ field_at entries bytes before at = do
   attributes ← counted_at (attribute_at entries owner.Field bytes) bytes descr.1
   Ok (record { flags = flags.0; name = name.0; descr = descr.0; attributes = attributes.0 }, attributes.1)
 
--- the access flags ACC_STATIC, and ACC_NATIVE and ACC_ABSTRACT
-abbrev pub is_static : ℕ → Bool
-is_static flags = not (bit_and flags 0x0008 == 0)
-
+-- the access flags ACC_NATIVE and ACC_ABSTRACT
 abbrev pub lacks_code : ℕ → Bool
 lacks_code flags = not (bit_and flags 0x0500 == 0)
 

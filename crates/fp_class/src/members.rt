@@ -288,7 +288,7 @@ fn count_codes(entries: &[Entry], names: &[u16]) -> usize
 /// How many words the arguments of a method take, whose parameters take so many.
 fn with_receiver(flags: u16, words: u32) -> u32
     requires { words + 1 < 2 ^ 32 }
-    ensures { result ≡ words + (if members.is_static flags then 0 else 1) }
+    ensures { result ≡ words + (if is_static flags then 0 else 1) }
 {
     if flags & STATIC != 0 {
         words

@@ -10,6 +10,7 @@ use Rattle.fp_base.specs.declared.names.NameFault.{NameFault}
 use Rattle.fp_base.specs.declared.names.NameFault.TheVariants as fault
 use Rattle.fp_base.proofs.NameLemmas.{with_name-extends, with_names-extends, with_names-append, slice_get-append}
 use Rattle.fp_model.specs.Descriptor.{LacksRoom}
+use Rattle.fp_model.proofs.Crowded.{crowded, crowded_later, crowded_sooner}
 use Rattle.fp_model.proofs.LongerTables.{Keeps}
 use Rattle.fp_model.specs.Interning.{Interned}
 
@@ -49,7 +50,20 @@ interned_one (Err e) old new text named same full = record {
       record {
         lacks = subst (λ t. LacksRoom t (text ∷ [])) (sym same) (lacks.1, ap (λ b. not b || false) lacks.0);
         few = omega (arith, ap length same);
+        many = crowded old (text ∷ []) (lacks.1, ap (λ b. not b || false) lacks.0);
       };
+}
+
+-- texts that don't fit, before one of them was taken
+pub interned_full : {X : Type 0} (old new texts : List (List ℕ)) → new ≡ old → LacksRoom old texts → Interned {X = X} (Err fault.Full) old new texts
+interned_full old new texts same lacks = record {
+  names = tt;
+  grown = ([], same ∙ sym (append-nil old));
+  full = λ is. record {
+    lacks = subst (λ t. LacksRoom t texts) (sym same) lacks;
+    few = omega (arith, ap length same);
+    many = crowded old texts lacks;
+  };
 }
 
 -- none
@@ -75,6 +89,7 @@ interned_then (Err f) old mid new a b is then =
           record {
             lacks = lacks_rest new a b late.lacks;
             few = omega (arith, late.few, ap length is, length-with_names-le old a, length-append a b);
+            many = crowded_later old mid a b is late.many;
           };
     }
 
@@ -86,7 +101,11 @@ interned_stop f old new a b stopped = record {
   full = λ e.
       let is : f ≡ fault.Full = cc in
       let early = stopped.full (ap Err is) in
-      record { lacks = lacks_first new a b early.lacks; few = omega (arith, early.few, length-append a b) };
+      record {
+        lacks = lacks_first new a b early.lacks;
+        few = omega (arith, early.few, length-append a b);
+        many = crowded_sooner old a b early.many;
+      };
 }
 
 -- the same fault of a call that answers something else

@@ -13,6 +13,7 @@ mod SmallSets
 mod Tables
 pub mod ArrayTypes
 pub mod Checking
+pub mod Crowded
 pub mod ElementTexts
 pub mod EndedNames
 pub mod Interned

@@ -1,5 +1,5 @@
 -- Calls that take texts into a table of names, one after the other.
-use Rattle.std.proofs.Common.{◌≡◌, ℕ, cond, false, not, List, [], ◌∷◌, ◌++◌, Result, Ok, Err, Some, sym, ap, ◌∙◌, subst}
+use Rattle.std.proofs.Common.{◌≡◌, ℕ, cond, false, not, List, [], ◌∷◌, ◌++◌, Result, Ok, Err, Some, refl, sym, ap, ◌∙◌, subst}
 use Rattle.std.specs.Result.{is_ok, is_err}
 use Rattle.std.specs.List.{list_any, flat_map, slice_get}
 use Rattle.std.proofs.lemmas.Bool.{or_left, or_right}
@@ -12,6 +12,7 @@ use Rattle.fp_base.specs.declared.names.NameFault.TheVariants as fault
 use Rattle.fp_base.proofs.NameLemmas.{with_names-extends, with_names-append, slice_get-append}
 use Rattle.fp_model.specs.Descriptor.{kind_names, LacksRoom}
 use Rattle.fp_model.specs.Taking.{Taken}
+use Rattle.fp_model.proofs.Crowded.{crowded, crowded_later, crowded_sooner}
 use Rattle.fp_model.proofs.LongerTables.{Keeps}
 
 lacks_first : (names a b : List (List ℕ)) → LacksRoom names a → LacksRoom names (a ++ b)
@@ -24,7 +25,7 @@ lacks_rest names a b lacks = (lacks.0, list_any-append (λ text. not (has_name n
 pub taken_ok : {X : Type 0} (x : X) (old new texts : List (List ℕ)) → new ≡ with_names old texts → Taken (Ok x) old new texts
 taken_ok x old new texts is =
     let longer = with_names-extends old texts in
-    record { names = is; grown = (longer.0, is ∙ longer.1); full = λ e. absurd (cc) }
+    record { names = is; grown = (longer.0, is ∙ longer.1); full = λ e. absurd (cc); many = λ e. absurd (cc) }
 
 -- one whose table was full, or memory ran out, before anything was taken
 pub taken_full : {X : Type 0} (old new texts : List (List ℕ)) → new ≡ old → LacksRoom old texts → Taken {X = X} (Err fault.Full) old new texts
@@ -32,20 +33,26 @@ taken_full old new texts same lacks = record {
   names = tt;
   grown = ([], same ∙ sym (append-nil old));
   full = λ e. subst (λ t. LacksRoom t texts) (sym same) lacks;
+  many = λ e. crowded old texts lacks;
 }
 
 pub taken_lost : {X : Type 0} (old new texts : List (List ℕ)) → new ≡ old → Taken {X = X} (Err fault.Memory) old new texts
-taken_lost old new texts same = record { names = tt; grown = ([], same ∙ sym (append-nil old)); full = λ e. absurd (cc) }
+taken_lost old new texts same = record { names = tt; grown = ([], same ∙ sym (append-nil old)); full = λ e. absurd (cc); many = λ e. absurd (cc) }
 
 -- memory ran out behind calls that took theirs
 pub taken_late : {X : Type 0} (old new a texts : List (List ℕ)) → new ≡ with_names old a → Taken {X = X} (Err fault.Memory) old new texts
 taken_late old new a texts is =
     let longer = with_names-extends old a in
-    record { names = tt; grown = (longer.0, is ∙ longer.1); full = λ e. absurd (cc) }
+    record { names = tt; grown = (longer.0, is ∙ longer.1); full = λ e. absurd (cc); many = λ e. absurd (cc) }
 
 -- the same fault of a call that answers something else
 pub taken_as : {X Y : Type 0} (f : NameFault) (old new texts : List (List ℕ)) → Taken {X = X} (Err f) old new texts → Taken {X = Y} (Err f) old new texts
-taken_as f old new texts stopped = record { names = tt; grown = stopped.grown; full = λ e. let is : f ≡ fault.Full = cc in stopped.full (ap Err is) }
+taken_as f old new texts stopped = record {
+  names = tt;
+  grown = stopped.grown;
+  full = λ e. let is : f ≡ fault.Full = cc in stopped.full (ap Err is);
+  many = λ e. let is : f ≡ fault.Full = cc in stopped.many (ap Err is);
+}
 
 -- a call that failed behind others, and some that don't come to pass
 pub taken_stop : {X Y : Type 0} (f : NameFault) (old mid new a b c : List (List ℕ)) → mid ≡ with_names old a → Taken {X = X} (Err f) mid new b → Taken {X = Y} (Err f) old new (a ++ (b ++ c))
@@ -55,7 +62,12 @@ taken_stop f old mid new a b c is stopped =
       names = tt;
       grown = (first.0 ++ stopped.grown.0, stopped.grown.1 ∙ ap (λ t. t ++ stopped.grown.0) (is ∙ first.1) ∙ append_assoc old first.0 stopped.grown.0);
       full = λ e. let full : f ≡ fault.Full = cc in lacks_rest new a (b ++ c) (lacks_first new b c (stopped.full (ap Err full)));
+      many = λ e. let full : f ≡ fault.Full = cc in crowded_later old mid a (b ++ c) is (crowded_sooner mid b c (stopped.many (ap Err full)));
     }
+
+-- one that failed before others, which don't come to pass
+pub taken_first : {X Y : Type 0} (f : NameFault) (old new a b : List (List ℕ)) → Taken {X = X} (Err f) old new a → Taken {X = Y} (Err f) old new (a ++ b)
+taken_first {X} {Y} f old new a b stopped = taken_stop {X = X} {Y = Y} f old old new [] a b refl stopped
 
 -- two calls that took theirs
 pub taken_both : (old mid new a b : List (List ℕ)) → mid ≡ with_names old a → new ≡ with_names mid b → new ≡ with_names old (a ++ b)

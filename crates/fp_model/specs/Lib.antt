@@ -4,6 +4,7 @@ pub mod Decoding
 pub mod Descriptor
 pub mod Entries
 pub mod Limits
+pub mod Flags
 pub mod Form
 pub mod Instructions
 pub mod Interning
@@ -12,5 +13,6 @@ pub mod NamedInstructions
 pub mod Pool
 pub mod Reading
 pub mod References
+pub mod SoundCode
 pub mod Spelling
 pub mod Taking

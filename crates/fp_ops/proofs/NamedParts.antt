@@ -19,7 +19,7 @@ not_bad test text at passes bad =
 
 -- what is said of a table that took texts, with less of a full one
 pub taken_of : {X : Type 0} (result : Result X NameFault) (old new texts : List (List ℕ)) → Interned result old new texts → Taken result old new texts
-taken_of result old new texts is = record { names = is.names; grown = is.grown; full = λ e. (is.full e).lacks }
+taken_of result old new texts is = record { names = is.names; grown = is.grown; full = λ e. (is.full e).lacks; many = λ e. (is.full e).many }
 
 -- numbers of texts are theirs in a longer table
 pub IsMember-kept : (names longer : List (List ℕ)) (texts : MemberTexts) (class name descr : ℕ) → Keeps names longer → IsMember names texts class name descr → IsMember longer texts class name descr

@@ -27,6 +27,8 @@ pub fn read_descr(alloc: Global, text: &[u8], names: &mut Names) -> Result<Descr
     // The table is full, and has no room for one of the names.
     ensures full { IsErrOf result DescrFault.Full
         → (is_method_descriptor text.now ≡ true) × LacksRoom names.new (descr_names text.now) }
+    // With all of its names it would have too many.
+    ensures many { IsErrOf result DescrFault.Full → 16777216 < length (with_names names.old (descr_names text.now)) }
     ensures grown { (more : List (List ℕ)) × (names.new ≡ names.old ++ more) }
 {
     if let Some(place) = bad_place_of_method(text) {

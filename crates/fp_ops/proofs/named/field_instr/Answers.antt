@@ -1,9 +1,15 @@
 use Rattle.std.proofs.Common.{[], ◌∷◌, Err}
 use Rattle.std.proofs.lemmas.Result.{err_from_is_err_and}
 use Rattle.fp_model.specs.Descriptor.{kind_names}
-use Rattle.fp_model.proofs.Interned.{interned_then, interned_as, kept_by}
+use Rattle.fp_model.proofs.Interned.{interned_stop, interned_then, interned_as, kept_by}
 use Rattle.fp_ops.proofs.NamedParts.{IsMember-kept}
 use Rattle.fp_ops.proofs.named.field_instr.Goals as goal
+
+pub returns-in_err-numbers-clause-names : goal.returns-in_err-numbers-clause-names
+returns-in_err-numbers-clause-names c =
+    let p = err_from_is_err_and c.from_residual.result c.from_residual.ensures.1 in
+    rw (p.1, p.2)
+    (interned_stop c.in_err-numbers.field-0.0 c.args.names.now c.number_all.new.names (c.args.texts.class.now ∷ (c.args.texts.name.now ∷ (c.args.texts.descr.now ∷ []))) (kind_names c.args.texts.descr.now) c.in_err-numbers.ensures.names)
 
 pub returns-in_err-kind-clause-names : goal.returns-in_err-kind-clause-names
 returns-in_err-kind-clause-names c =

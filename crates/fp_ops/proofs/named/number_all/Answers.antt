@@ -1,7 +1,13 @@
 use Rattle.std.proofs.Common.{[], ◌∷◌, Err}
 use Rattle.std.proofs.lemmas.Result.{err_from_is_err_and}
-use Rattle.fp_model.proofs.Interned.{after_one, interned_then, interned_as, kept_by, Keeps-then}
+use Rattle.fp_model.proofs.Interned.{after_one, interned_stop, interned_then, interned_as, kept_by, Keeps-then}
 use Rattle.fp_ops.proofs.named.number_all.Goals as goal
+
+pub returns-in_err-class-clause-names : goal.returns-in_err-class-clause-names
+returns-in_err-class-clause-names c =
+    let p = err_from_is_err_and c.from_residual.result c.from_residual.ensures.1 in
+    rw (p.1, p.2)
+    (interned_stop c.in_err-class.field-0.0 c.args.names.now c.number.new.names (c.args.class.now ∷ []) (c.args.name.now ∷ (c.args.descr.now ∷ [])) c.in_err-class.ensures.names)
 
 pub returns-in_err-name-clause-names : goal.returns-in_err-name-clause-names
 returns-in_err-name-clause-names c =

@@ -5,8 +5,14 @@ use Rattle.fp_model.specs.Descriptor.{kind_names, parameters, result_of, IsResul
 use Rattle.fp_base.specs.Names.{with_names}
 use Rattle.fp_model.proofs.ArrayTypes.{from_place}
 use Rattle.fp_model.proofs.MethodKinds.{descr_made, result_is}
-use Rattle.fp_model.proofs.Taking.{kept_by, taken_both, taken_last, taken_ok}
+use Rattle.fp_model.proofs.Taking.{kept_by, taken_both, taken_first, taken_last, taken_ok}
 use Rattle.fp_model.proofs.descriptor.method_reading.read_parts.Goals as goal
+
+pub returns-in_err-args-clause-names : goal.returns-in_err-args-clause-names
+returns-in_err-args-clause-names c =
+    let p = err_from_is_err_and c.from_residual.result c.from_residual.ensures.1 in
+    let text = c.args.text.now in
+    rw (p.1, p.2) (taken_first c.in_err-args.field-0.0 c.args.names.now c.read_args.new.names (flat_map kind_names (parameters text)) (kind_names (result_of text)) c.in_err-args.ensures.names)
 
 pub returns-in_err-result-clause-names : goal.returns-in_err-result-clause-names
 returns-in_err-result-clause-names c =
