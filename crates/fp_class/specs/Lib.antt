@@ -1,5 +1,6 @@
 pub mod Classes
 pub mod ClassFile
+pub mod CodeNumbers
 pub mod Descriptors
 pub mod Interning
 pub mod Keys
