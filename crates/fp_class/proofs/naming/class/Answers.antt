@@ -8,13 +8,21 @@ use Rattle.fp_model.specs.Entries.{class_name_at}
 use Rattle.fp_model.specs.Interning.{Interned}
 use Rattle.fp_class.proofs.Facts.{facts_of}
 use Rattle.fp_class.proofs.NamedParts.{class_over, passes-is_some, texts_whole}
-use Rattle.fp_model.proofs.Interned.{after_one, after_two, after_three, all_four, kept_by}
+use Rattle.fp_model.proofs.Interned.{after_one, after_two, after_three, all_four, interned_stop, kept_by}
 use Rattle.fp_class.proofs.naming.class.Goals as goal
 
 pub class_name-requires-clause-there : goal.class_name-requires-clause-there
 class_name-requires-clause-there c =
     rw c.as_slice-entries.ensures
     (passes-is_some (λ name. not (is_array_like name)) (class_name_at c.args.raw.now.pool.entries c.args.raw.now.this) (facts_of c.args.raw.now c.requires).this)
+
+pub returns-in_err-this-clause-names : goal.returns-in_err-this-clause-names
+returns-in_err-this-clause-names c =
+    let p = err_from_is_err_and c.from_residual.result c.from_residual.ensures.1 in
+    rw (p.1, p.2)
+    (subst (Interned (Err c.in_err-this.field-0.0) c.args.names.now c.class_name.new.names)
+    (texts_whole c.args.raw.now c.as_slice-entries.result.now c.args.raw.now.interfaces c.args.raw.now.fields c.as_slice-entries.ensures refl refl)
+    (interned_stop c.in_err-this.field-0.0 c.args.names.now c.class_name.new.names _ _ c.in_err-this.ensures.names))
 
 pub returns-in_err-parent-clause-names : goal.returns-in_err-parent-clause-names
 returns-in_err-parent-clause-names c =
