@@ -24,12 +24,11 @@ use Rattle.fp_model.specs.declared.raw.pool.Entry.{Entry}
 use Rattle.fp_model.specs.declared.raw.pool.Entry.TheVariants as entry
 use Rattle.fp_model.specs.Descriptor.{is_array_like, IsDescrOf, IsKindOf}
 use Rattle.fp_model.specs.Entries.{class_name_at, text_at}
-use Rattle.fp_model.specs.Instructions.{plain_instr}
 use Rattle.fp_model.specs.Kinds.{kind_in}
 use Rattle.fp_model.specs.NamedInstructions.{is_call_op, is_class_op, is_field_op, member_at, IsArrayInstr, IsCallAt, IsCallInstr, IsClassInstr, IsClassKindBy, IsFieldInstr, IsMember, IsMultiArrayInstr, IsNamedInstr, IsOf, MemberTexts}
 use Rattle.fp_model.specs.Spelling.{spelled_ins}
 use Rattle.fp_ops.specs.CallSites.{handle_with, site_at, HandleTexts, IsArgAt, IsArgOf, IsBootRef, IsHandleArg, IsSiteAt, IsSiteInstr, IsTypeArg, SiteTexts}
-use Rattle.fp_ops.specs.Forms.{dims_in, index_in, is_named_op, is_site_op, takes_names, IsInstrOf}
+use Rattle.fp_ops.specs.Forms.{dims_in, index_in, is_named_op, is_site_op, IsInstrOf}
 use Rattle.fp_class.specs.CodeNumbers.{boot_arg_in, boot_arg_of, boot_ref_in, call_instr_in, class_instr_in, class_kind_in, code_in, descr_in, field_instr_in, guard_in, instr_in, instr_there, instrs_from, named_instr_in, site_instr_in}
 use Rattle.fp_class.specs.Interning.{IsParentName}
 use Rattle.fp_class.specs.MethodCode.{AreInstrsFrom, IsCodeOf, IsGuardOf}
