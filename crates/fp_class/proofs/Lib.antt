@@ -9,6 +9,8 @@ mod LongerInstrs
 mod NamedCode
 mod NamedParts
 mod Numberings
+mod OneCode
+mod OneDescr
 mod Seen
 pub mod SoundCodes
 pub mod Skipped

@@ -1,64 +1,32 @@
 -- The class of a file over a table of distinct names is determined.
-use Rattle.std.proofs.Common.{◌≡◌, ℕ, ◌-◌, ◌<◌, true, false, cond, List, [], ◌∷◌, ◌++◌, Option, Some, None, length, take, drop, get_or, map, refl, sym, ap, ap₂, ◌∙◌, arith, length-append}
-use Rattle.std.specs.Prelude.{◌==◌, nat_le, slice_get, unwrap_or, option_and_then, option_map, IfSome, All}
+use Rattle.std.proofs.Common.{◌≡◌, ℕ, ◌<◌, List, [], ◌∷◌, Option, Some, None, length, get_or, map, refl, sym, ap, ap₂, ◌∙◌}
+use Rattle.std.specs.Prelude.{slice_get, unwrap_or, option_and_then, option_map, IfSome, All}
 use Rattle.std.specs.List.{AllZip}
-use Rattle.std.proofs.lemmas.Bool.{and_parts, both_ways, eqb-true}
 use Rattle.std.proofs.lemmas.List.Elements.{All-head, All-tail}
 use Rattle.std.proofs.lemmas.Option.{slice_get-get_or}
-use Rattle.std.proofs.Math.Seq.{take-append_seam}
 use Rattle.fp_base.specs.Names.{number_of, AreDistinct}
 use Rattle.fp_base.proofs.NameLemmas.{number_of-at}
 use Rattle.fp_model.specs.declared.class.Class.{Class}
+use Rattle.fp_model.specs.declared.class.Code.{Code}
 use Rattle.fp_model.specs.declared.class.Field.{Field}
 use Rattle.fp_model.specs.declared.class.Method.{Method}
 use Rattle.fp_model.specs.declared.raw.Raw.{Raw}
 use Rattle.fp_model.specs.declared.raw.RawMember.{RawMember}
+use Rattle.fp_model.specs.declared.raw.attribute.BootRow.{BootRow}
+use Rattle.fp_model.specs.declared.raw.attribute.RawCode.{RawCode}
 use Rattle.fp_model.specs.declared.raw.pool.Entry.{Entry}
+use Rattle.fp_model.specs.declared.kind.Descr.{Descr}
 use Rattle.fp_model.specs.declared.kind.Kind.{Kind}
-use Rattle.fp_model.specs.declared.kind.Elem.{Elem}
-use Rattle.fp_model.specs.declared.kind.Elem.TheVariants as elem
-use Rattle.fp_model.specs.Descriptor.{dimensions, element_text, is_element, is_field_descriptor, is_proper, kind_text, text_of, IsKindOf}
+use Rattle.fp_model.specs.Descriptor.{text_of}
 use Rattle.fp_model.specs.Entries.{text_at, class_name_at}
-use Rattle.fp_model.specs.ClassSet.{IsFieldOver}
-use Rattle.fp_model.specs.Kinds.{element_in, kind_in}
-use Rattle.fp_class.specs.Classes.{class_in, field_in, number_in, IsClassOf, IsFieldOf}
-use Rattle.fp_model.proofs.ElementTexts.{name_parts}
-use Rattle.fp_model.proofs.OneKind.{element_of, kind_from, kind_from-count, made, seen, stands}
-
--- ---- a kind
-
--- the name before the ';'
-name_cut : (name : List ℕ) → take (length (name ++ 59 ∷ []) - 1) (name ++ 59 ∷ []) ≡ name
-name_cut name = ap (λ n. take n (name ++ 59 ∷ [])) (omega (arith, length-append name (59 ∷ []))) ∙ take-append_seam name (59 ∷ [])
-
--- the type of an element is what its text says
-element_said : (names : List (List ℕ)) (e : Elem) → AreDistinct names → is_element (element_text names e) ≡ true → element_in names (element_text names e) ≡ e
-element_said names (elem.Prim letter) distinct passes =
-    elim (letter == 76) as (λ b. (letter == 76) ≡ b → element_in names (letter ∷ []) ≡ elem.Prim letter) [
-      | true ↦ λ h. absurd (both_ways (is_element (letter ∷ [])) (ap (λ c. is_element (c ∷ [])) (eqb-true letter 76 h)) passes)
-      | false ↦ λ h. ap (λ b. cond b (elem.Class (number_of names [])) (elem.Prim letter)) h
-    ] refl
-element_said names (elem.Class n) distinct passes =
-    let some : 0 < length (text_of names n) = (name_parts (text_of names n) 59 passes).0 in
-    ap (λ text. elem.Class (number_of names text)) (name_cut (text_of names n))
-    ∙ ap elem.Class (number_of-at names n (text_of names n) distinct (stands names n some))
-
--- a kind by its dimensions and the type of its element
-kind_by_parts : (names : List (List ℕ)) (text : List ℕ) → kind_in names text ≡ kind_from (dimensions text) (element_in names (drop (dimensions text) text))
-kind_by_parts names text =
-    kind_from-count (dimensions text) (element_in names text) (element_in names (drop (dimensions text) text)) (λ none. ap (λ n. element_in names (drop n text)) (sym none))
-
--- a kind is what its descriptor says
-kind_said : (names : List (List ℕ)) (text : List ℕ) (k : Kind) → AreDistinct names → IsKindOf names text k → k ≡ kind_in names text
-kind_said names text k distinct is =
-    let parts = seen names text k is in
-    let whole = and_parts (is_proper k) (is_field_descriptor (kind_text names k)) is.kind in
-    let descriptor : is_field_descriptor text ≡ true = ap is_field_descriptor (sym is.written) ∙ whole.1 in
-    let passes : is_element (element_text names (element_of k)) ≡ true = ap is_element parts.1 ∙ (and_parts (nat_le (dimensions text) 255) (is_element (drop (dimensions text) text)) descriptor).1 in
-    let element : element_in names (drop (dimensions text) text) ≡ element_of k = ap (element_in names) (sym parts.1) ∙ element_said names (element_of k) distinct passes in
-    sym (made k whole.0)
-    ∙ ap₂ kind_from parts.0 (sym element)
-    ∙ sym (kind_by_parts names text)
+use Rattle.fp_model.specs.ClassSet.{IsFieldOver, IsMethodOver}
+use Rattle.fp_model.specs.Kinds.{kind_in}
+use Rattle.fp_class.specs.Classes.{class_in, field_in, method_in, number_in, IsClassOf, IsCodeAmong, IsFieldOf, IsMethodOf}
+use Rattle.fp_class.specs.ClassFile.{boots_of}
+use Rattle.fp_class.specs.CodeNumbers.{code_in, descr_in}
+use Rattle.fp_class.specs.Methods.{code_of}
+use Rattle.fp_class.proofs.OneCode.{code_said}
+use Rattle.fp_class.proofs.OneDescr.{descr_said, kind_said}
 
 -- ---- numbers
 
@@ -111,6 +79,41 @@ fields_said names entries (f ∷ fields) (m ∷ members) distinct over all =
     (field_said names entries f m distinct (All-head (IsFieldOver names) f fields over) all.0)
     (fields_said names entries fields members distinct (All-tail (IsFieldOver names) f fields over) all.1)
 
+-- ---- methods
+
+-- a method by its parts
+method_by_parts : (m : Method) (name descr : ℕ) (kinds : Descr) (flags : ℕ) (code : Option Code) → m.name ≡ name → m.descr ≡ descr → m.kinds ≡ kinds → m.flags ≡ flags → m.code ≡ code → m ≡ record { name = name; descr = descr; kinds = kinds; flags = flags; code = code }
+method_by_parts m name descr kinds flags code n d k g c =
+    ap (λ n. record { name = n; descr = m.descr; kinds = m.kinds; flags = m.flags; code = m.code }) n
+    ∙ ap (λ d. record { name = name; descr = d; kinds = m.kinds; flags = m.flags; code = m.code }) d
+    ∙ ap (λ k. record { name = name; descr = descr; kinds = k; flags = m.flags; code = m.code }) k
+    ∙ ap (λ g. record { name = name; descr = descr; kinds = kinds; flags = g; code = m.code }) g
+    ∙ ap (λ c. record { name = name; descr = descr; kinds = kinds; flags = flags; code = c }) c
+
+code_among_said : (names : List (List ℕ)) (entries : List Entry) (boots : List BootRow) (code : Option Code) (raw : Option RawCode) → AreDistinct names → IsCodeAmong names entries boots code raw → code ≡ option_map (code_in names entries boots) raw
+code_among_said names entries boots None None distinct is = refl
+code_among_said names entries boots None (Some raw) distinct is = absurd is
+code_among_said names entries boots (Some code) None distinct is = absurd is
+code_among_said names entries boots (Some code) (Some raw) distinct is = ap Some (code_said names distinct entries boots code raw is)
+
+method_said : (names : List (List ℕ)) (entries : List Entry) (boots : List BootRow) (m : Method) (method : RawMember) → AreDistinct names → IsMethodOver names m → IsMethodOf names entries boots m method → m ≡ method_in names entries boots method
+method_said names entries boots m method distinct over of =
+    let name : m.name ≡ number_in names (text_at entries method.name) = number_said names m.name (text_at entries method.name) distinct over.name of.name in
+    let descr : m.descr ≡ number_in names (text_at entries method.descr) = number_said names m.descr (text_at entries method.descr) distinct over.descr of.descr in
+    let text : text_of names m.descr ≡ unwrap_or (text_at entries method.descr) [] = ap (λ o. unwrap_or o []) of.descr in
+    let kinds : m.kinds ≡ descr_in names (unwrap_or (text_at entries method.descr) []) = descr_said names (text_of names m.descr) m.kinds distinct over.kinds ∙ ap (descr_in names) text in
+    let code : m.code ≡ option_map (code_in names entries boots) (code_of method.attributes) = code_among_said names entries boots m.code (code_of method.attributes) distinct of.code in
+    method_by_parts m (number_in names (text_at entries method.name)) (number_in names (text_at entries method.descr)) (descr_in names (unwrap_or (text_at entries method.descr) [])) method.flags (option_map (code_in names entries boots) (code_of method.attributes)) name descr kinds of.flags code
+
+methods_said : (names : List (List ℕ)) (entries : List Entry) (boots : List BootRow) (methods : List Method) (members : List RawMember) → AreDistinct names → All (IsMethodOver names) methods → AllZip (IsMethodOf names entries boots) methods members → methods ≡ map (method_in names entries boots) members
+methods_said names entries boots [] [] distinct over all = refl
+methods_said names entries boots [] (m ∷ members) distinct over all = absurd all
+methods_said names entries boots (m ∷ methods) [] distinct over all = absurd all
+methods_said names entries boots (m ∷ methods) (r ∷ members) distinct over all =
+    ap₂ (λ x xs. x ∷ xs)
+    (method_said names entries boots m r distinct (All-head (IsMethodOver names) m methods over) all.0)
+    (methods_said names entries boots methods members distinct (All-tail (IsMethodOver names) m methods over) all.1)
+
 -- ---- the law
 
 -- a class by its parts
@@ -130,4 +133,5 @@ one_class names c raw distinct of =
     let parent : c.parent ≡ option_map (number_of names) (class_name_at raw.pool.entries raw.parent) = parent_said names c.parent (class_name_at entries raw.parent) distinct of.over.parent of.parent in
     let interfaces : c.interfaces ≡ map (λ index. number_in names (class_name_at raw.pool.entries index)) raw.interfaces = interfaces_said names entries c.interfaces raw.interfaces distinct of.over.interfaces of.interfaces in
     let fields : c.fields ≡ map (field_in names raw.pool.entries) raw.fields = fields_said names entries c.fields raw.fields distinct of.over.fields of.fields in
-    class_by_parts c (number_in names (class_name_at raw.pool.entries raw.this)) (option_map (number_of names) (class_name_at raw.pool.entries raw.parent)) (map (λ index. number_in names (class_name_at raw.pool.entries index)) raw.interfaces) raw.flags (map (field_in names raw.pool.entries) raw.fields) [] name parent interfaces of.flags fields of.methods
+    let methods : c.methods ≡ map (method_in names raw.pool.entries (boots_of raw.attributes)) raw.methods = methods_said names entries (boots_of raw.attributes) c.methods raw.methods distinct of.over.methods of.methods in
+    class_by_parts c (number_in names (class_name_at raw.pool.entries raw.this)) (option_map (number_of names) (class_name_at raw.pool.entries raw.parent)) (map (λ index. number_in names (class_name_at raw.pool.entries index)) raw.interfaces) raw.flags (map (field_in names raw.pool.entries) raw.fields) (map (method_in names raw.pool.entries (boots_of raw.attributes)) raw.methods) name parent interfaces of.flags fields methods
