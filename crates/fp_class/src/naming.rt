@@ -40,7 +40,7 @@ fn intern_text(
 }
 
 /// The number of the text at an index, which is then known.
-fn text(
+pub fn text(
     alloc: Global,
     entries: &[Entry],
     index: u16,
