@@ -4,8 +4,15 @@ use Rattle.std.specs.Option.{unwrap_or}
 use Rattle.fp_model.specs.Descriptor.{kind_names}
 use Rattle.fp_model.specs.Entries.{text_at}
 use Rattle.fp_class.proofs.NamedParts.{field_named}
-use Rattle.fp_model.proofs.Interned.{after_one, interned_then, interned_as, kept_by}
+use Rattle.fp_model.proofs.Interned.{after_one, interned_stop, interned_then, interned_as, kept_by}
 use Rattle.fp_class.proofs.naming.field.Goals as goal
+
+pub returns-in_err-name-clause-names : goal.returns-in_err-name-clause-names
+returns-in_err-name-clause-names c =
+    let p = err_from_is_err_and c.from_residual.result c.from_residual.ensures.1 in
+    let descr = unwrap_or (text_at c.args.entries.now c.args.member.now.descr) [] in
+    rw (p.1, p.2)
+    (interned_stop c.in_err-name.field-0.0 c.args.names.now c.text.new.names (unwrap_or (text_at c.args.entries.now c.args.member.now.name) [] ∷ []) (descr ∷ kind_names descr) c.in_err-name.ensures.names)
 
 pub returns-in_err-descr-clause-names : goal.returns-in_err-descr-clause-names
 returns-in_err-descr-clause-names c =
