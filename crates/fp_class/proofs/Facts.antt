@@ -1,17 +1,18 @@
 -- What a well-formed class file has.
-use Rattle.std.proofs.Common.{◌≡◌, ℕ, zero, suc, ◌+◌, Bool, true, false, List, [], ◌∷◌, ◌++◌, Result, Ok, IsTrue, length, ◌==◌, refl, sym, ap, ◌∙◌, subst}
+use Rattle.std.proofs.Common.{◌≡◌, ℕ, zero, suc, ◌+◌, Bool, true, false, List, [], ◌∷◌, ◌++◌, Option, Some, None, Result, Ok, IsTrue, length, ◌==◌, refl, sym, ap, ◌∙◌, subst}
 use Rattle.std.proofs.lemmas.Bool.{and_parts, and_from}
 use Rattle.std.proofs.lemmas.List.{append-nil, append_assoc}
 use Rattle.std.specs.Int.{w16, w32}
 use Rattle.std.specs.List.{list_all}
 use Rattle.std.specs.Option.{is_some}
+use Rattle.std.specs.Prelude.{nat_le}
 use Rattle.fp_model.specs.declared.fault.FileFault.{FileFault}
 use Rattle.fp_model.specs.declared.fault.FileFault.TheVariants as fault
 use Rattle.fp_model.specs.declared.raw.pool.Entry.{Entry}
 use Rattle.fp_model.specs.declared.raw.pool.Entry.TheVariants as entry
 use Rattle.fp_model.specs.declared.raw.RawMember.{RawMember}
 use Rattle.fp_model.specs.declared.raw.Raw.{Raw}
-use Rattle.fp_model.specs.Descriptor.{is_field_descriptor}
+use Rattle.fp_model.specs.Descriptor.{is_field_descriptor, is_method_descriptor}
 use Rattle.fp_model.specs.Entries.{is_class_index, passes, tag_at, text_at}
 use Rattle.fp_model.specs.Pool.{is_wide, pool_at}
 use Rattle.fp_model.specs.Reading.{counted_at, demanded, number_at}
@@ -26,8 +27,8 @@ use Rattle.fp_pool.proofs.Formed.{pool_has_form}
 use Rattle.fp_class.specs.declared.layout.Layout.{Layout}
 use Rattle.fp_class.specs.ClassFile.{boot_number_checked, boots_of, class_attribute_at, class_of, entries_start, interface_checked, is_parent, names_checked, parts_of, IsWellFormed}
 use Rattle.fp_class.specs.Layout.{counted_skipped, is_version, layout_of, member_skipped}
-use Rattle.fp_class.specs.Members.{counted_after, field_at, is_new, many_after, method_at}
-use Rattle.fp_class.specs.Naming.{is_sound_field}
+use Rattle.fp_class.specs.Members.{argument_words, code_count, counted_after, field_at, is_new, is_type_of, many_after, method_at, name_at, wanted_codes, words_at}
+use Rattle.fp_class.specs.Naming.{is_sound_field, is_sound_method}
 use Rattle.fp_class.proofs.Sorts.{sorted, text_tagged}
 
 -- ---- the constant pool
@@ -106,7 +107,7 @@ names_facts entries layout e =
       interfaces = interfaces_are entries (layout.flags_at + 8) layout.interfaces last;
     }) more) e
 
--- ---- the fields
+-- ---- the members
 
 -- what a loop reads behind what it has
 record More {A : Type 0} (form : A → Bool) (before : List A) (count : ℕ) (all : List A) : Type 0 where
@@ -166,6 +167,34 @@ field_sound entries bytes before at x e =
     (and_from (is_some (text_at entries name.0)) (passes is_field_descriptor (text_at entries descr.0)) (text_there entries flags.1 name.0 has_name) (text_passes entries is_field_descriptor name.1 descr.0 has_type))
     ) r5) r4) r3) r2) r1) r0) e
 
+-- a text that is a method's descriptor, with few enough arguments, is a method's descriptor
+type_is_descriptor : (flags : ℕ) (o : Option (List ℕ)) → passes (is_type_of flags) o ≡ true → passes is_method_descriptor o ≡ true
+type_is_descriptor flags None h = absurd (cc)
+type_is_descriptor flags (Some text) h = (and_parts (is_method_descriptor text) (nat_le (argument_words flags (Some text)) 255) h).0
+
+type_passes : (entries : List Entry) (flags at index words : ℕ) → words_at entries flags at index ≡ Ok words → passes is_method_descriptor (text_at entries index) ≡ true
+unfolding words_at
+type_passes entries flags at index words e =
+    opened (text_checked entries (is_type_of flags) at index) _ (λ u has_type last.
+    type_is_descriptor flags (text_at entries index) (text_passes entries (is_type_of flags) at index has_type)) e
+
+method_sound : (entries : List Entry) (bytes : List ℕ) (before : List RawMember) (at : ℕ) (x : RawMember × ℕ) → method_at entries bytes before at ≡ Ok x → is_sound_method entries x.0 ≡ true
+unfolding method_at
+method_sound entries bytes before at x e =
+    opened (number_at w16 bytes at) _ (λ flags e0 r0.
+    opened (number_at w16 bytes flags.1) _ (λ name e1 r1.
+    opened (number_at w16 bytes name.1) _ (λ descr e2 r2.
+    opened (demanded (is_new entries before name.0 descr.0) (fault.Repeat at)) _ (λ u e3 r3.
+    opened (tagged entries 1 flags.1 name.0) _ (λ v has_name r4.
+    opened (words_at entries flags.0 name.1 descr.0) _ (λ words has_type r5.
+    opened (counted_at (name_at entries bytes) bytes descr.1) _ (λ names e6 r6.
+    opened (demanded (code_count entries names.0 == wanted_codes flags.0) (fault.CodeCount (length before))) _ (λ w e7 r7.
+    opened (counted_at (attribute_at entries (owner.Method words) bytes) bytes descr.1) _ (λ attributes e8 last.
+    let is : (record { flags = flags.0; name = name.0; descr = descr.0; attributes = attributes.0 }, attributes.1) ≡ x = cc in
+    subst (λ (y : RawMember × ℕ). is_sound_method entries y.0 ≡ true) is
+    (and_from (is_some (text_at entries name.0)) (passes is_method_descriptor (text_at entries descr.0)) (text_there entries flags.1 name.0 has_name) (type_passes entries flags.0 name.1 descr.0 words has_type))
+    ) r7) r6) r5) r4) r3) r2) r1) r0) e
+
 -- ---- the file
 
 pub record Facts (raw : Raw) : Type 0 where
@@ -174,6 +203,7 @@ pub record Facts (raw : Raw) : Type 0 where
   pub parent : is_parent raw.pool.entries raw.flags raw.this raw.parent ≡ true
   pub interfaces : IsTrue (list_all (is_class_index raw.pool.entries) raw.interfaces)
   pub fields : IsTrue (list_all (is_sound_field raw.pool.entries) raw.fields)
+  pub methods : IsTrue (list_all (is_sound_method raw.pool.entries) raw.methods)
   pub few_entries : IsTrue (is_u2 (length raw.pool.entries))
   pub few_interfaces : IsTrue (is_u2 (length raw.interfaces))
   pub few_fields : IsTrue (is_u2 (length raw.fields))
@@ -189,6 +219,7 @@ parts_facts bytes below layout raw e0 referred named e =
     let laid = layout_facts bytes below layout e0 in
     let names = names_facts layout.pool.entries layout named in
     let sound = counted_formed (is_sound_field layout.pool.entries) (field_at layout.pool.entries bytes) (field_sound layout.pool.entries bytes) bytes below layout.fields_at fields e3 in
+    let typed = counted_formed (is_sound_method layout.pool.entries) (method_at layout.pool.entries bytes) (method_sound layout.pool.entries bytes) bytes below fields.1 methods e4 in
     subst Facts is
     (record {
       checked = record { at = entries_start; referred = referred; short = laid.short };
@@ -196,6 +227,7 @@ parts_facts bytes below layout raw e0 referred named e =
       parent = names.parent;
       interfaces = names.interfaces;
       fields = sound.1;
+      methods = typed.1;
       few_entries = laid.few_entries;
       few_interfaces = laid.few_interfaces;
       few_fields = sound.0;

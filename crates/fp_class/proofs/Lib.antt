@@ -6,7 +6,9 @@ pub mod MemberSpelled
 pub mod Memos
 pub mod MemberTexts
 mod LongerInstrs
+mod NamedClass
 mod NamedCode
+mod NamedMethods
 mod NamedParts
 mod Numberings
 mod OneCode

@@ -50,7 +50,7 @@ module _ (names longer : List (List ℕ)) (kept : Keeps names longer) where
   result_kept None is = (refl, tt)
   result_kept (Some k) is = one_kept k is
 
-  descr_kept : (text : List ℕ) (d : Descr) → IsDescrOf names text d → IsDescrOf longer text d
+  pub descr_kept : (text : List ℕ) (d : Descr) → IsDescrOf names text d → IsDescrOf longer text d
   descr_kept text d is =
       let args = parameters_kept d.args is.args in
       let result = result_kept d.result is.result in

@@ -74,7 +74,7 @@ module _ (names more longer : List (List ℕ)) (is : longer ≡ names ++ more) w
     held = subst (λ t. list_all (has_name t) (kind_names known.text) ≡ true) (sym is) (held_longer names more (kind_names known.text) known.held);
   }
 
-  memo_longer : (entries : List Entry) (memo : Memo) → IsMemo names entries memo → IsMemo longer entries memo
+  pub memo_longer : (entries : List Entry) (memo : Memo) → IsMemo names entries memo → IsMemo longer entries memo
   memo_longer entries memo known = record {
     numbers_size = known.numbers_size;
     kinds_size = known.kinds_size;

@@ -1,20 +1,18 @@
 -- The parts of a class in numbers of a table of names.
-use Rattle.std.proofs.Common.{◌≡◌, inl, inr, ℕ, ◌+◌, true, drop, Bool, zero, suc, ◌<◌, List, [], ◌∷◌, ◌++◌, map, Option, Some, None, length, refl, sym, ap, ◌∙◌, subst, arith}
+use Rattle.std.proofs.Common.{◌≡◌, inl, inr, ℕ, ◌+◌, true, ◌&&◌, drop, Bool, zero, suc, ◌<◌, List, [], ◌∷◌, ◌++◌, map, Option, Some, None, length, refl, sym, ap, ◌∙◌, subst, arith}
 use Rattle.std.proofs.lemmas.List.Elements.{All-nil, All-cons}
 use Rattle.std.proofs.lemmas.Bool.{and_parts, both_ways, cases_lt, ltb-true}
 use Rattle.std.proofs.lemmas.List.{take-append-drop}
-use Rattle.std.specs.List.{All, list_all, flat_map, AllZip, slice_get}
-use Rattle.std.specs.Option.{is_some, option_and_then, option_to_list, unwrap_or, IfSome}
+use Rattle.std.specs.List.{All, list_all, AllZip, slice_get}
+use Rattle.std.specs.Option.{is_some, option_and_then, unwrap_or, IfSome}
 use Rattle.fp_model.specs.declared.raw.pool.Entry.{Entry}
 use Rattle.fp_model.specs.declared.raw.pool.Entry.TheVariants as entry
-use Rattle.fp_model.specs.declared.class.Method.{Method}
 use Rattle.fp_model.specs.declared.kind.Kind.{Kind}
 use Rattle.fp_model.specs.declared.raw.RawMember.{RawMember}
-use Rattle.fp_model.specs.declared.raw.Raw.{Raw}
 use Rattle.fp_model.specs.declared.class.Field.{Field}
-use Rattle.fp_class.specs.Classes.{field_names, raw_names, IsFieldOf, IsClassOf}
-use Rattle.fp_model.specs.ClassSet.{IsFieldOver, IsMethodOver}
-use Rattle.fp_model.specs.Descriptor.{is_field_descriptor, IsBadAt, IsKindOf}
+use Rattle.fp_class.specs.Classes.{IsFieldOf}
+use Rattle.fp_model.specs.ClassSet.{IsFieldOver}
+use Rattle.fp_model.specs.Descriptor.{is_field_descriptor, IsKindOf, StopsAt}
 use Rattle.fp_model.specs.Entries.{passes, text_in, text_at, class_name_at}
 use Rattle.fp_model.proofs.LongerTables.{Keeps, IsKindOf-kept}
 use Rattle.fp_model.proofs.Interned.{Keeps-then}
@@ -36,7 +34,7 @@ AllZip-more P [] (b ∷ ys) x y all one = absurd all
 AllZip-more P (a ∷ xs) [] x y all one = absurd all
 AllZip-more P (a ∷ xs) (b ∷ ys) x y all one = (all.0, AllZip-more P xs ys x y all.1 one)
 
-AllZip-All : {A B : Type 0} (P : A → B → Type 0) (Q : A → Type 0) (xs : List A) (ys : List B) → ((x : A) (y : B) → P x y → Q x) → AllZip P xs ys → All Q xs
+pub AllZip-All : {A B : Type 0} (P : A → B → Type 0) (Q : A → Type 0) (xs : List A) (ys : List B) → ((x : A) (y : B) → P x y → Q x) → AllZip P xs ys → All Q xs
 AllZip-All P Q [] [] f all = All-nil Q
 AllZip-All P Q [] (y ∷ ys) f all = absurd all
 AllZip-All P Q (x ∷ xs) [] f all = absurd all
@@ -70,54 +68,54 @@ pub passes-is_some : {A : Type 0} (test : A → Bool) (o : Option A) → passes 
 passes-is_some test None h = absurd (cc)
 passes-is_some test (Some x) h = refl
 
--- the texts of a sound field
-record HasTexts (entries : List Entry) (field : RawMember) : Type 0 where
-  name : List ℕ
-  descr : List ℕ
-  name_is : text_at entries field.name ≡ Some name
-  descr_is : text_at entries field.descr ≡ Some descr
+-- the texts of a sound member
+pub record HasTexts (entries : List Entry) (member : RawMember) : Type 0 where
+  pub name : List ℕ
+  pub descr : List ℕ
+  pub name_is : text_at entries member.name ≡ Some name
+  pub descr_is : text_at entries member.descr ≡ Some descr
 
 some_of : {A : Type 0} (o : Option A) → is_some o ≡ true → (x : A) × (o ≡ Some x)
 some_of None h = absurd (cc)
 some_of (Some x) h = (x, refl)
 
-texts_of : (entries : List Entry) (field : RawMember) → is_sound_field entries field ≡ true → HasTexts entries field
-texts_of entries field sound =
-    let parts = and_parts (is_some (text_at entries field.name)) (passes is_field_descriptor (text_at entries field.descr)) sound in
-    let name = some_of (text_at entries field.name) parts.0 in
-    let descr = some_of (text_at entries field.descr) (passes-is_some is_field_descriptor (text_at entries field.descr) parts.1) in
+pub texts_of : (test : List ℕ → Bool) (entries : List Entry) (member : RawMember) → (is_some (text_at entries member.name) && passes test (text_at entries member.descr)) ≡ true → HasTexts entries member
+texts_of test entries member sound =
+    let parts = and_parts (is_some (text_at entries member.name)) (passes test (text_at entries member.descr)) sound in
+    let name = some_of (text_at entries member.name) parts.0 in
+    let descr = some_of (text_at entries member.descr) (passes-is_some test (text_at entries member.descr) parts.1) in
     record { name = name.0; descr = descr.0; name_is = name.1; descr_is = descr.1 }
 
--- ---- the class
+-- ---- parts of the class
 
-within : (names : List (List ℕ)) (n : ℕ) (text : List ℕ) → slice_get names n ≡ Some text → n < length names
+pub within : (names : List (List ℕ)) (n : ℕ) (text : List ℕ) → slice_get names n ≡ Some text → n < length names
 within [] n text at = absurd (cc)
 within (x ∷ xs) zero text at = omega arith
 within (x ∷ xs) (suc n) text at = omega (arith, within xs n text at)
 
-field_over : (names : List (List ℕ)) (entries : List Entry) (f : Field) (member : RawMember) → IsNamedField names entries f member → IsFieldOver names f
+pub field_over : (names : List (List ℕ)) (entries : List Entry) (f : Field) (member : RawMember) → IsNamedField names entries f member → IsFieldOver names f
 field_over names entries f member is = record {
   name = within names f.name is.name is.name_number;
   descr = within names f.descr is.descr is.descr_number;
   kind = subst (λ text. IsKindOf names text f.kind) (sym (ap (λ o. unwrap_or o []) is.descr_number)) is.kind;
 }
 
-field_of : (names : List (List ℕ)) (entries : List Entry) (f : Field) (member : RawMember) → IsNamedField names entries f member → IsFieldOf names entries f member
+pub field_of : (names : List (List ℕ)) (entries : List Entry) (f : Field) (member : RawMember) → IsNamedField names entries f member → IsFieldOf names entries f member
 field_of names entries f member is = record {
   flags = is.flags;
   name = is.name_number ∙ sym is.name_text;
   descr = is.descr_number ∙ sym is.descr_text;
 }
 
-parent_over : (names : List (List ℕ)) (entries : List Entry) (n : Option ℕ) (index : ℕ) → IsParentName names entries n index → IfSome n (λ m. m < length names)
+pub parent_over : (names : List (List ℕ)) (entries : List Entry) (n : Option ℕ) (index : ℕ) → IsParentName names entries n index → IfSome n (λ m. m < length names)
 parent_over names entries None index is = tt
 parent_over names entries (Some n) index is = within names n is.text is.number
 
-parent_of : (names : List (List ℕ)) (entries : List Entry) (n : Option ℕ) (index : ℕ) → IsParentName names entries n index → option_and_then (slice_get names) n ≡ class_name_at entries index
+pub parent_of : (names : List (List ℕ)) (entries : List Entry) (n : Option ℕ) (index : ℕ) → IsParentName names entries n index → option_and_then (slice_get names) n ≡ class_name_at entries index
 parent_of names entries None index is = sym is
 parent_of names entries (Some n) index is = is.number ∙ sym is.name
 
-names_of : (names : List (List ℕ)) (entries : List Entry) (numbers indexes : List ℕ) → AllZip (IsClassName names entries) numbers indexes → map (slice_get names) numbers ≡ map (class_name_at entries) indexes
+pub names_of : (names : List (List ℕ)) (entries : List Entry) (numbers indexes : List ℕ) → AllZip (IsClassName names entries) numbers indexes → map (slice_get names) numbers ≡ map (class_name_at entries) indexes
 names_of names entries [] [] all = refl
 names_of names entries [] (i ∷ indexes) all = absurd all
 names_of names entries (n ∷ numbers) [] all = absurd all
@@ -125,50 +123,12 @@ names_of names entries (n ∷ numbers) (i ∷ indexes) all =
     ap (λ o. o ∷ map (slice_get names) numbers) (all.0.number ∙ sym all.0.name)
     ∙ ap (λ l. class_name_at entries i ∷ l) (names_of names entries numbers indexes all.1)
 
-class_made : (names : List (List ℕ)) (raw : Raw) (name : ℕ) (parent : Option ℕ) (interfaces : List ℕ) (fields : List Field)
-    → IsClassName names raw.pool.entries name raw.this → IsParentName names raw.pool.entries parent raw.parent → AllZip (IsClassName names raw.pool.entries) interfaces raw.interfaces → AllZip (IsNamedField names raw.pool.entries) fields raw.fields
-    → IsClassOf names (record { name = name; parent = parent; interfaces = interfaces; flags = raw.flags; fields = fields; methods = [] }) raw
-class_made names raw name parent interfaces fields this above others members =
-    let entries = raw.pool.entries in
-    record {
-      over = record {
-        name = within names name this.text this.number;
-        parent = parent_over names entries parent raw.parent above;
-        interfaces = AllZip-All (IsClassName names entries) (λ n. n < length names) interfaces raw.interfaces (λ n index is. within names n is.text is.number) others;
-        fields = AllZip-All (IsNamedField names entries) (IsFieldOver names) fields raw.fields (λ f member is. field_over names entries f member is) members;
-        methods = All-nil (IsMethodOver names);
-      };
-      flags = refl;
-      name = this.number ∙ sym this.name;
-      parent = parent_of names entries parent raw.parent above;
-      interfaces = names_of names entries interfaces raw.interfaces others;
-      fields = AllZip-to (IsNamedField names entries) (IsFieldOf names entries) fields raw.fields (λ f member is. field_of names entries f member is) members;
-      methods = refl;
-    }
-
--- parts that were named one after the other, over tables that grew
-pub class_over : (raw : Raw) (entries : List Entry) (indexes : List ℕ) (members : List RawMember) (n1 n2 n3 n4 : List (List ℕ)) (name : ℕ) (parent : Option ℕ) (interfaces : List ℕ) (fields : List Field) (methods : List Method)
-    → entries ≡ raw.pool.entries → indexes ≡ raw.interfaces → members ≡ raw.fields → methods ≡ []
-    → IsClassName n1 entries name raw.this → Keeps n1 n2 → IsParentName n2 entries parent raw.parent → Keeps n2 n3 → AllZip (IsClassName n3 entries) interfaces indexes → Keeps n3 n4 → AllZip (IsNamedField n4 entries) fields members
-    → IsClassOf n4 (record { name = name; parent = parent; interfaces = interfaces; flags = raw.flags; fields = fields; methods = methods }) raw
-class_over raw entries indexes members n1 n2 n3 n4 name parent interfaces fields methods is i_is m_is none this k12 above k23 others k34 all =
-    let k24 = Keeps-then n2 n3 n4 k23 k34 in
-    let k14 = Keeps-then n1 n2 n4 k12 k24 in
-    let made = class_made n4 raw name parent interfaces fields
-    (subst (λ e. IsClassName n4 e name raw.this) is (IsClassName-kept n1 n4 entries name raw.this k14 this))
-    (subst (λ e. IsParentName n4 e parent raw.parent) is (IsParentName-kept n2 n4 entries parent raw.parent k24 above))
-    (subst (AllZip (IsClassName n4 raw.pool.entries) interfaces) i_is
-    (subst (λ e. AllZip (IsClassName n4 e) interfaces indexes) is
-    (AllZip-to (IsClassName n3 entries) (IsClassName n4 entries) interfaces indexes (λ n index one. IsClassName-kept n3 n4 entries n index k34 one) others)))
-    (subst (AllZip (IsNamedField n4 raw.pool.entries) fields) m_is (subst (λ e. AllZip (IsNamedField n4 e) fields members) is all)) in
-    subst (λ l. IsClassOf n4 (record { name = name; parent = parent; interfaces = interfaces; flags = raw.flags; fields = fields; methods = l }) raw) (sym none) made
-
 -- a field whose texts were numbered one after the other
 pub field_named : (n1 n2 n3 : List (List ℕ)) (entries : List Entry) (member : RawMember) (name descr : ℕ) (k : Kind) → is_sound_field entries member ≡ true
     → slice_get n1 name ≡ text_at entries member.name → Keeps n1 n2 → slice_get n2 descr ≡ text_at entries member.descr → Keeps n2 n3 → IsKindOf n3 (unwrap_or (text_at entries member.descr) []) k
     → IsNamedField n3 entries (record { name = name; descr = descr; kind = k; flags = member.flags }) member
 field_named n1 n2 n3 entries member name descr k sound first k12 second k23 says =
-    let texts = texts_of entries member sound in
+    let texts = texts_of is_field_descriptor entries member sound in
     record {
       flags = refl;
       name = texts.name;
@@ -179,14 +139,6 @@ field_named n1 n2 n3 entries member name descr k sound first k12 second k23 says
       descr_text = texts.descr_is;
       kind = subst (λ o. IsKindOf n3 (unwrap_or o []) k) texts.descr_is says;
     }
-
--- the texts of a class by its parts
-pub texts_whole : (raw : Raw) (entries : List Entry) (indexes : List ℕ) (members : List RawMember) → entries ≡ raw.pool.entries → indexes ≡ raw.interfaces → members ≡ raw.fields
-    → (option_to_list (class_name_at entries raw.this) ++ (option_to_list (class_name_at entries raw.parent) ++ (flat_map (λ index. option_to_list (class_name_at entries index)) indexes ++ flat_map (field_names entries) members))) ≡ raw_names raw
-texts_whole raw entries indexes members is i_is m_is =
-    ap (λ l. option_to_list (class_name_at entries raw.this) ++ (option_to_list (class_name_at entries raw.parent) ++ (flat_map (λ index. option_to_list (class_name_at entries index)) l ++ flat_map (field_names entries) members))) i_is
-    ∙ ap (λ l. option_to_list (class_name_at entries raw.this) ++ (option_to_list (class_name_at entries raw.parent) ++ (flat_map (λ index. option_to_list (class_name_at entries index)) raw.interfaces ++ flat_map (field_names entries) l))) m_is
-    ∙ ap (λ e. option_to_list (class_name_at e raw.this) ++ (option_to_list (class_name_at e raw.parent) ++ (flat_map (λ index. option_to_list (class_name_at e index)) raw.interfaces ++ flat_map (field_names e) raw.fields))) is
 
 -- ---- descriptors
 
@@ -200,10 +152,10 @@ text_short [] i text short at = absurd (cc)
 text_short (e ∷ entries) zero text short at = entry_text e text (and_parts (is_short_entry e) (list_all is_short_entry entries) short).0 at
 text_short (e ∷ entries) (suc i) text short at = text_short entries i text (and_parts (is_short_entry e) (list_all is_short_entry entries) short).1 at
 
--- a field descriptor has no bad place
-pub not_bad : (text : List ℕ) (at : ℕ) → is_field_descriptor text ≡ true → IsBadAt text at → ⊥
-not_bad text at passes bad =
+-- a text that passes the test has no bad place
+pub not_bad : (test : List ℕ → Bool) (text : List ℕ) (at : ℕ) → test text ≡ true → StopsAt test text at → ⊥
+not_bad test text at passes bad =
     elim (cases_lt at (length text)) [
-      | inl lt ↦ bad.after lt (drop (at + 1) text, ap is_field_descriptor (take-append-drop (at + 1) text) ∙ passes)
-      | inr ge ↦ both_ways (is_field_descriptor text) (bad.whole (omega (arith, bad.within))) passes
+      | inl lt ↦ bad.after lt (drop (at + 1) text, ap test (take-append-drop (at + 1) text) ∙ passes)
+      | inr ge ↦ both_ways (test text) (bad.whole (omega (arith, bad.within))) passes
     ]

@@ -20,7 +20,7 @@ use crate::texts::read_texts;
 use fp_attr::{Owner, read_attr};
 use fp_model::look_up::{class_name, is_class};
 use fp_model::reading::u16_at;
-use fp_model::{Entry, FileFault, Pool, Raw, RawAttr, RawBody};
+use fp_model::{BootRow, Entry, FileFault, Pool, Raw, RawAttr, RawBody};
 use fp_pool::{check_references, entry_size};
 use sqlite_items::Items;
 use std::alloc::Global;
@@ -140,16 +140,16 @@ fn attributes(
     many_attributes(alloc, bytes, next, pool, count)
 }
 
-/// How many bootstrap methods there are.
-fn count_boots(attributes: &[RawAttr]) -> usize
-    ensures { result ≡ length (boots_of attributes.now) }
+/// The rows of the bootstrap methods, none where there are none.
+pub fn boot_rows(attributes: &[RawAttr]) -> &[BootRow]
+    ensures { result.now ≡ boots_of attributes.now }
 {
     for attribute in attributes {
         if let RawBody::Boot(rows) = &attribute.body {
-            return rows.len();
+            return rows.as_slice();
         }
     }
-    0
+    &[]
 }
 
 /// Checks that a constant that a bootstrap method computes has a row; it is spelled at an offset.
@@ -199,7 +199,7 @@ fn read_parts(alloc: Global, bytes: &[u8], layout: Layout) -> Result<Raw, FileFa
     let (fields, next) = fields(alloc, bytes, layout.fields_at, &layout.pool, &texts)?;
     let (methods, next) = methods(alloc, bytes, next, &layout.pool, &texts)?;
     let (attributes, _end) = attributes(alloc, bytes, next, &layout.pool)?;
-    let count = count_boots(attributes.as_slice());
+    let count = boot_rows(attributes.as_slice()).len();
     check_boot_numbers(count, ENTRIES_START, layout.pool.entries.as_slice())?;
     Ok(Raw {
         minor: layout.minor,

@@ -8,6 +8,7 @@ mod law;
 mod layout;
 mod members;
 mod memo;
+mod methods;
 mod naming;
 mod numbers;
 mod texts;

@@ -1,19 +1,21 @@
 //! Class files in numbers of a table of names.
-ghost use Rattle.std.specs.Prelude.{◌≡◌, ◌++◌, ◌^◌, ◌<◌, ◌↔◌, IsNone, ℕ, List, [], ◌∷◌, length, true, slice_get, unwrap_or, is_some, IsTrue, IfOk, IfSome, OnOk, IsErrOf};
+ghost use Rattle.std.specs.Prelude.{◌≡◌, ◌^◌, ◌<◌, ◌↔◌, IsNone, [], ◌∷◌, length, true, slice_get, unwrap_or, is_some, IsTrue, IfOk, IfSome, OnOk};
 ghost use Rattle.std.specs.List.{list_all, flat_map, AllZip};
 ghost use Rattle.std.specs.Option.{option_to_list};
-ghost use Rattle.fp_base.specs.Names.{with_names};
 ghost use Rattle.fp_class.specs.Classes.{field_names, raw_names, IsClassOf};
 ghost use Rattle.fp_model.specs.Descriptor.{is_field_descriptor, kind_names, IsKindOf};
 ghost use Rattle.fp_model.specs.Entries.{passes, class_name_at, is_class_index, text_at};
-ghost use Rattle.fp_model.specs.Interning.{HasNoRoom, Interned};
+ghost use Rattle.fp_model.specs.Interning.{Interned};
+ghost use Rattle.fp_model.specs.Taking.{Taken};
 ghost use Rattle.fp_ops.specs.Checked.{is_short_entry};
 ghost use Rattle.fp_class.specs.ClassFile.{is_module, IsWellFormed};
 ghost use Rattle.fp_class.specs.Interning.{IsClassName, IsNamedField, IsParentName};
 ghost use Rattle.fp_class.specs.Memos.{IsMemo};
 ghost use Rattle.fp_class.specs.Naming.{is_sound_field, taken_names};
 
+use crate::file::boot_rows;
 use crate::memo::{Memo, empty_memo, keep_kind, keep_number, known_kind, known_number};
+use crate::methods::methods;
 use fp_base::{NameFault, Names};
 use fp_model::{Class, DescrFault, Entry, Field, Kind, Raw, RawMember, look_up, read_kind};
 use sqlite_items::{Items, at};
@@ -40,7 +42,7 @@ fn intern_text(
 }
 
 /// The number of the text at an index, which is then known.
-fn text(
+pub fn text(
     alloc: Global,
     entries: &[Entry],
     index: u16,
@@ -246,9 +248,10 @@ fn fields(
 fn class(alloc: Global, raw: &Raw, names: &mut Names) -> Result<Class, NameFault>
     requires { IsWellFormed raw.now }
     ensures class { IfOk result (λ class. IsClassOf names.new class raw.now) }
-    ensures names { Interned result names.old names.new (raw_names raw.now) }
+    ensures names { Taken result names.old names.new (raw_names raw.now) }
 {
     let entries = raw.pool.entries.as_slice();
+    let boots = boot_rows(raw.attributes.as_slice());
     let Ok(mut memo) = empty_memo(alloc, entries) else {
         return Err(NameFault::Memory);
     };
@@ -257,32 +260,30 @@ fn class(alloc: Global, raw: &Raw, names: &mut Names) -> Result<Class, NameFault
     let parent = parent_name(alloc, entries, raw.parent, names, memo)?;
     let interfaces = class_names(alloc, entries, raw.interfaces.as_slice(), names, memo)?;
     let fields = fields(alloc, entries, raw.fields.as_slice(), names, memo)?;
+    let methods = methods(alloc, &raw.pool, boots, raw.methods.as_slice(), names, memo)?;
     Ok(Class {
         name: this,
         parent,
         interfaces,
         flags: raw.flags,
         fields,
-        methods: Items::new(alloc),
+        methods,
     })
 }
 
-/// The class of a class file without methods, in numbers of the table; its texts are taken into the table.
+/// The class of a class file in numbers of the table; its texts are taken into the table.
 ///
-/// None for a module (JVMS SE 21 section 4.1), of which no text is taken. On a fault the table may have grown.
+/// None for a module (JVMS SE 21 section 4.1), of which no text is taken. On a fault the table may have grown; it is full
+/// only where it would have too many names with all of them.
 pub fn to_class(alloc: Global, raw: &Raw, names: &mut Names) -> Result<Option<Class>, NameFault>
-    requires formed { IsWellFormed raw.now }
-    requires methods { raw.now.methods ≡ [] }
+    requires { IsWellFormed raw.now }
     // It is the class of the file.
     ensures class { IfOk result (λ c. IfSome c (λ class. IsClassOf names.new class raw.now)) }
     // There is none exactly for a module.
     ensures none { IfOk result (λ c. IsNone c ↔ (is_module raw.now.flags ≡ true)) }
-
-    // The table has each text of the class once, behind what it had.
-    ensures names { OnOk result (names.new ≡ with_names names.old (taken_names raw.now)) }
-    ensures grown { (more : List (List ℕ)) × (names.new ≡ names.old ++ more) }
-    // It is full where it has no room for one of these texts.
-    ensures full { IsErrOf result NameFault.Full → HasNoRoom names.old names.new (taken_names raw.now) }
+    // The table has each text of the class once, behind what it had; it is full only where it would have too many with all
+    // of these.
+    ensures names { Taken result names.old names.new (taken_names raw.now) }
 {
     if raw.flags & ACC_MODULE != 0 {
         return Ok(None);

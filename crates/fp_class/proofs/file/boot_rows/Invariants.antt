@@ -1,6 +1,6 @@
 use Rattle.std.proofs.Common.{◌≡◌, drop}
 use Rattle.fp_class.specs.ClassFile.{boots_of}
-use Rattle.fp_class.proofs.file.count_boots.Given as goal
+use Rattle.fp_class.proofs.file.boot_rows.Given as goal
 
 -- the bootstrap methods are those of what is left
 abbrev pub invariant-loop-attribute : goal.invariant-loop-attribute
