@@ -207,6 +207,7 @@ pub record Facts (raw : Raw) : Type 0 where
   pub few_entries : IsTrue (is_u2 (length raw.pool.entries))
   pub few_interfaces : IsTrue (is_u2 (length raw.interfaces))
   pub few_fields : IsTrue (is_u2 (length raw.fields))
+  pub few_methods : IsTrue (is_u2 (length raw.methods))
 
 parts_facts : (bytes : List ℕ) → IsBytes bytes → (layout : Layout) (raw : Raw) → layout_of bytes ≡ Ok layout → entries_checked layout.pool.entries entries_start layout.pool.entries ≡ Ok tt → names_checked layout.pool.entries layout ≡ Ok tt → parts_of bytes layout ≡ Ok raw → Facts raw
 unfolding parts_of
@@ -231,6 +232,7 @@ parts_facts bytes below layout raw e0 referred named e =
       few_entries = laid.few_entries;
       few_interfaces = laid.few_interfaces;
       few_fields = sound.0;
+      few_methods = typed.0;
     })
     ) r5) r4) r3) e
 

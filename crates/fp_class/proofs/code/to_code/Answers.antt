@@ -17,13 +17,3 @@ pub returns-clause-code : goal.returns-clause-code
 returns-clause-code c =
     code_made c.instructions.new.names c.guards.new.names c.args.pool.now.entries c.as_slice-2.result.now c.args.boots.now c.args.code.now c.in_ok-instrs.instrs c.as_slice.result.now c.in_ok-rows.rows c.as_slice-3.result.now
     c.as_slice.ensures c.as_slice-2.ensures c.as_slice-3.ensures (kept_by _ _ _ _ c.in_ok-rows.ensures.names) c.in_ok-instrs.ensures.instrs c.in_ok-rows.ensures.guards
-
-pub returns-in_err-instrs-clause-names : goal.returns-in_err-instrs-clause-names
-returns-in_err-instrs-clause-names c =
-    let p = err_from_is_err_and c.from_residual.result c.from_residual.ensures.1 in
-    let f = c.in_err-instrs.field-0.0 in
-    let texts = instr_texts c.args.pool.now.entries c.args.boots.now in
-    let caught = flat_map (row_texts c.args.pool.now.entries) (out-RawCode c.args.code.now).rows in
-    rw (p.1, p.2)
-    (subst (λ code. Taken {X = Code} (Err f) c.args.names.now c.instructions.new.names (flat_map texts code ++ caught)) c.as_slice.ensures
-    (taken_first f c.args.names.now c.instructions.new.names (flat_map texts c.as_slice.result.now) caught c.in_err-instrs.ensures.names))
