@@ -1,3 +1,5 @@
+mod CheckedLocals
+mod CheckedCodes
 pub mod ClassSpelled
 pub mod Facts
 pub mod Heads
@@ -15,6 +17,8 @@ pub mod Skipped
 pub mod OneClass
 pub mod Phases
 pub mod Sorts
+mod SoundInstrs
+pub mod SoundMethods
 mod Tables
 mod TakenTexts
 mod Walks
