@@ -7,6 +7,7 @@ use Rattle.fp_model.specs.SoundCode.{IsSoundMethod}
 use Rattle.fp_class.specs.ClassFile.{IsWellFormed}
 use Rattle.fp_class.specs.Classes.{IsClassOf}
 use Rattle.fp_class.proofs.CheckedCodes.{checked_codes}
+use Rattle.fp_class.proofs.SoundInstrs.{Suits}
 
 pub sound_methods : (names : List (List ℕ)) (c : Class) (raw : Raw) → IsWellFormed raw → IsClassOf names c raw → All IsSoundMethod c.methods
 sound_methods names c raw formed is = let known = checked_codes raw formed in ?
