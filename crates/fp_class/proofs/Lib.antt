@@ -1,3 +1,4 @@
+mod ArgumentWords
 mod CheckedLocals
 mod CheckedCodes
 pub mod ClassSpelled

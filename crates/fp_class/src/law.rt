@@ -28,7 +28,6 @@ pub fn law_sound_codes()
 {}
 
 /// A law: the code of each method of the class of a well-formed class file is sound, over any table of names.
-#[tactic(auto, using(crate::proofs::SoundMethods::sound_methods))]
 pub fn law_sound_methods()
     ensures { (names : List (List ℕ)) (c : Class) (raw : Raw) → IsWellFormed raw → IsClassOf names c raw → All IsSoundMethod c.methods }
 {}
