@@ -1,14 +1,14 @@
 -- The words of a method's arguments by their kinds are those by its descriptor.
-use Rattle.std.proofs.Common.{◌≡◌, ℕ, zero, suc, ◌+◌, true, List, [], ◌∷◌, ◌++◌, Option, Some, None, codes, cond, map, refl, sym, ap, ap₂, ◌∙◌, arith}
-use Rattle.std.specs.Prelude.{IsTrue, IfSome, unwrap_or}
-use Rattle.std.specs.List.{flat_map, list_all}
+use Rattle.std.proofs.Common.{◌≡◌, ℕ, zero, suc, ◌+◌, true, List, [], ◌∷◌, ◌++◌, Option, Some, None, codes, map, refl, sym, ap, ap₂, ◌∙◌, arith}
+use Rattle.std.specs.Prelude.{IsTrue, IfSome}
+use Rattle.std.specs.List.{list_all}
 use Rattle.std.proofs.lemmas.Bool.{and_from, and_parts, cond-true}
 use Rattle.std.proofs.lemmas.Bool.Decides.{nat_tests}
-use Rattle.std.proofs.lemmas.List.Folds.{flat_map-map, list_all-map}
+use Rattle.std.proofs.lemmas.List.Folds.{flat_map-map}
 use Rattle.fp_model.specs.declared.kind.Descr.{Descr}
 use Rattle.fp_model.specs.declared.kind.Kind.{Kind}
 use Rattle.fp_model.specs.declared.kind.Kind.TheVariants as kind
-use Rattle.fp_model.specs.Descriptor.{descr_text, is_among, is_field_descriptor, is_kind, is_method_descriptor, is_proper, is_result, kind_text, parameter_words, parameters, result_text, words_of, words_of_all, IsDescrOf, IsMethodOf}
+use Rattle.fp_model.specs.Descriptor.{is_among, is_field_descriptor, is_kind, is_method_descriptor, is_proper, is_result, kind_text, parameter_words, result_text, words_of, words_of_all, IsDescrOf, IsMethodOf}
 use Rattle.fp_model.specs.SoundCode.{kind_words, kind_words_all}
 use Rattle.fp_model.proofs.MethodGrammar.{tells_parts}
 use Rattle.fp_model.proofs.MethodTypes.{result_field}

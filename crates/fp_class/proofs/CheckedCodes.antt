@@ -1,11 +1,10 @@
 -- What is looked at where the code of a method is read, of each method of a well-formed class file.
-use Rattle.std.proofs.Common.{◌≡◌, ℕ, ◌+◌, ◌-◌, ◌<◌, ◌≤◌, ◌^◌, Bool, true, false, ◌&&◌, ◌||◌, ◌==◌, List, [], ◌∷◌, Option, Result, Ok, length, take, drop, refl, sym, ap, ◌∙◌, subst, arith}
+use Rattle.std.proofs.Common.{◌≡◌, ℕ, ◌+◌, ◌-◌, ◌<◌, ◌≤◌, ◌^◌, Bool, true, ◌&&◌, ◌||◌, ◌==◌, List, [], ◌∷◌, Ok, length, take, drop, refl, sym, ap, subst, arith}
 use Rattle.std.specs.Prelude.{nat_le, nat_lt, All, IfSome}
 use Rattle.std.specs.List.{flat_map, list_all}
 use Rattle.std.specs.Int.{w16, w32}
 use Rattle.std.proofs.lemmas.Bool.{and_parts, and_from, ltb-true, lt-ltb}
 use Rattle.std.proofs.lemmas.List.{length-drop, length-take, length-take-le}
-use Rattle.fp_model.specs.declared.fault.FileFault.{FileFault}
 use Rattle.fp_model.specs.declared.fault.FileFault.TheVariants as fault
 use Rattle.fp_model.specs.declared.raw.pool.Entry.{Entry}
 use Rattle.fp_model.specs.declared.raw.attribute.CatchRow.{CatchRow}
@@ -19,7 +18,7 @@ use Rattle.fp_model.specs.declared.raw.RawMember.{RawMember}
 use Rattle.fp_model.specs.declared.raw.Raw.{Raw}
 use Rattle.fp_model.specs.Branches.{leads_to, starts_at, targets_checked}
 use Rattle.fp_model.specs.Decoding.{decoded}
-use Rattle.fp_model.specs.Entries.{tag_at, text_at}
+use Rattle.fp_model.specs.Entries.{text_at}
 use Rattle.fp_model.specs.Reading.{behind, counted_at, demanded, number_at}
 use Rattle.fp_model.specs.References.{each_checked, entries_checked, tagged, text_checked}
 use Rattle.fp_model.specs.Spelling.{spelled, spelled_entry, spelled_ins, spelled_plain, spelled_row}

@@ -1,5 +1,5 @@
 -- The code of each method of a well-formed class file asks for what is there.
-use Rattle.std.proofs.Common.{◌≡◌, ℕ, zero, suc, ◌+◌, ◌<◌, ◌^◌, Bool, true, false, ◌&&◌, cond, ◌-◌, List, [], ◌∷◌, ◌++◌, Option, Some, None, Result, Ok, IsTrue, length, take, drop, ◌==◌, codes, refl, sym, ap, ◌∙◌, subst, arith}
+use Rattle.std.proofs.Common.{◌≡◌, ℕ, zero, suc, ◌+◌, ◌<◌, ◌^◌, Bool, true, false, ◌&&◌, cond, ◌-◌, List, [], ◌∷◌, ◌++◌, Option, Result, Ok, length, take, drop, ◌==◌, codes, refl, sym, ap, ◌∙◌, subst, arith}
 use Rattle.std.specs.Prelude.{nat_le, nat_lt, All, IfSome}
 use Rattle.std.specs.List.{flat_map, list_all, list_any}
 use Rattle.std.specs.Int.{w16, w32}
@@ -26,18 +26,17 @@ use Rattle.fp_model.specs.Decoding.{decoded}
 use Rattle.fp_model.specs.Entries.{tag_at, text_at}
 use Rattle.fp_model.specs.Reading.{behind, bytes_at, counted_at, demanded, many_at, number_at}
 use Rattle.fp_model.specs.References.{each_checked, entries_checked, tagged}
-use Rattle.fp_model.specs.Spelling.{spelled, spelled_boot, spelled_entry, spelled_ins, spelled_plain, spelled_row, u2}
+use Rattle.fp_model.specs.Spelling.{spelled, spelled_boot, spelled_entry, spelled_ins, spelled_plain, spelled_row}
 use Rattle.fp_model.proofs.Readers.{opened, demanded-true, IsBytes}
-use Rattle.fp_attr.specs.Attributes.{argument_checked, attribute_at, body_at, boot_at, boot_checked, boots_at, constant_at, is_called, is_value_tag, unread_at}
+use Rattle.fp_attr.specs.Attributes.{attribute_at, body_at, boot_at, boot_checked, boots_at, is_called, unread_at}
 use Rattle.fp_attr.specs.Codes.{code_at, cut_at, name_checked, row_checked}
-use Rattle.fp_attr.specs.declared.cut.Cut.{Cut}
 use Rattle.fp_attr.specs.declared.owner.Owner.{Owner}
 use Rattle.fp_attr.specs.declared.owner.Owner.TheVariants as owner
 use Rattle.fp_ops.specs.Checked.{are_sound_from, has_row, AreCheckedBoots, IsCheckedPool}
 use Rattle.fp_ops.proofs.DecodedCode.{decoded_sound}
 use Rattle.fp_ops.proofs.Spelled.{decoded_spelled, ok_is}
 use Rattle.fp_class.specs.declared.layout.Layout.{Layout}
-use Rattle.fp_class.specs.ClassFile.{are_boots, boot_number_checked, boots_of, class_attribute_at, class_of, class_owner, entries_start, names_checked, parts_of, rows_or, IsWellFormed}
+use Rattle.fp_class.specs.ClassFile.{are_boots, boot_number_checked, boots_of, class_attribute_at, class_of, entries_start, names_checked, parts_of, rows_or, IsWellFormed}
 use Rattle.fp_class.specs.Layout.{layout_of}
 use Rattle.fp_class.specs.Members.{code_count, counted_after, field_at, is_new, method_at, name_at, wanted_codes, words_at}
 use Rattle.fp_class.specs.MethodCode.{is_sound_code}

@@ -1,5 +1,5 @@
 -- What a checked instruction names is there: where it branches to, its local, and its form.
-use Rattle.std.proofs.Common.{◌≡◌, inl, inr, ℕ, ◌+◌, ◌-◌, ◌/◌, ◌%◌, ◌<◌, ◌≤◌, Bool, true, false, cond, ◌&&◌, ◌||◌, ◌==◌, List, [], ◌∷◌, ◌++◌, Option, Some, None, codes, refl, sym, ap, ◌∙◌, subst, arith}
+use Rattle.std.proofs.Common.{◌≡◌, inl, inr, ℕ, ◌+◌, ◌-◌, ◌/◌, ◌%◌, ◌<◌, ◌≤◌, Bool, true, false, cond, ◌||◌, ◌==◌, List, [], ◌∷◌, ◌++◌, Option, Some, None, codes, refl, sym, ap, ◌∙◌, subst, arith}
 use Rattle.std.specs.Prelude.{nat_le, nat_lt, slice_index, IfSome}
 use Rattle.std.specs.Int.{w8, w16}
 use Rattle.std.specs.List.{list_all}
@@ -26,7 +26,7 @@ use Rattle.fp_model.specs.Instructions.{constant_instr, descr_instr, entry_instr
 use Rattle.fp_model.specs.NamedInstructions.{is_call_op, is_class_op, is_field_op, member_at, IsArrayInstr, IsCallInstr, IsClassInstr, IsFieldInstr, IsMultiArrayInstr, IsNamedInstr, IsOf, MemberTexts}
 use Rattle.fp_model.specs.Reading.{number_at}
 use Rattle.fp_model.specs.References.{descr_at}
-use Rattle.fp_model.specs.SoundCode.{branches_to, is_number_sort, is_of_form, is_value_sort, is_within, locals_asked, sort_words}
+use Rattle.fp_model.specs.SoundCode.{branches_to, is_of_form, is_value_sort, is_within, locals_asked, sort_words}
 use Rattle.fp_ops.specs.CallSites.{site_at, IsSiteInstr, SiteTexts}
 use Rattle.fp_ops.specs.Forms.{dims_in, index_in, is_named_op, is_site_op, takes_names, IsInstrOf}
 use Rattle.fp_class.proofs.CheckedLocals.{fits_frame, has_locals, is_in_frame}

@@ -19,11 +19,11 @@ use Rattle.fp_model.specs.declared.raw.attribute.RawIns.{RawIns}
 use Rattle.fp_model.specs.declared.raw.pool.Entry.{Entry}
 use Rattle.fp_model.specs.Branches.{leads_to, starts_at, targets_of}
 use Rattle.fp_model.specs.ClassSet.{IsMethodOver}
-use Rattle.fp_model.specs.Descriptor.{parameter_words, text_of}
+use Rattle.fp_model.specs.Descriptor.{text_of}
 use Rattle.fp_model.specs.Entries.{text_at}
 use Rattle.fp_model.specs.Flags.{is_static}
 use Rattle.fp_model.specs.Form.{form_of}
-use Rattle.fp_model.specs.SoundCode.{ascend_above, ascend_from_0, branches_to, is_of_form, is_pc, kind_words_all, locals_asked, method_words, pcs_of, IsSoundCode, IsSoundMethod}
+use Rattle.fp_model.specs.SoundCode.{ascend_above, ascend_from_0, branches_to, is_of_form, is_pc, kind_words_all, locals_asked, method_words, IsSoundCode, IsSoundMethod}
 use Rattle.fp_model.specs.Spelling.{spelled_ins}
 use Rattle.fp_ops.proofs.Walking.{agree_on, some_size}
 use Rattle.fp_class.specs.ClassFile.{boots_of, IsWellFormed}
