@@ -122,8 +122,7 @@ module _ (names : List (List ℕ)) (entries : List Entry) (boots : List BootRow)
       let same : (k : ℕ) → is_pc code k ≡ starts_at 0 body.code k = λ k. same_places 0 code.instrs body.code k is.instrs in
       let leads : lead_from (is_pc code) 0 body.code ≡ true = lead_agree (is_pc code) (starts_at 0 body.code) same 0 body.code ∙ checked.leads in
       let suits : AllSuit (is_pc code) code.max_locals code.instrs =
-      subst (λ n. AllSuit (is_pc code) n code.instrs) (sym is.max_locals) (all_suit (is_pc code) body.max_locals 0 code.instrs body.code is.instrs checked.locals leads) in
-      (
+      subst (λ n. AllSuit (is_pc code) n code.instrs) (sym is.max_locals) (all_suit (is_pc code) body.max_locals 0 code.instrs body.code is.instrs checked.locals leads) in (
         record {
           pcs = ascends_from_0 code.instrs body.code checked.some is.instrs;
           branches = suits.branches;
@@ -131,7 +130,7 @@ module _ (names : List (List ℕ)) (entries : List Entry) (boots : List BootRow)
           locals = suits.locals;
           forms = suits.forms;
         },
-        subst (λ n. words ≤ n) (sym is.max_locals) (leb-true words body.max_locals checked.room)
+        subst (λ n. words ≤ n) (sym is.max_locals) (leb-true words body.max_locals checked.room),
       )
 
   -- ---- a method
