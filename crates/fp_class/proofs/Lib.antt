@@ -1,3 +1,6 @@
+mod ArgumentWords
+mod CheckedLocals
+mod CheckedCodes
 pub mod ClassSpelled
 pub mod Facts
 pub mod Heads
@@ -19,6 +22,8 @@ pub mod Skipped
 pub mod OneClass
 pub mod Phases
 pub mod Sorts
+mod SoundInstrs
+pub mod SoundMethods
 mod Tables
 mod TakenTexts
 mod Walks

@@ -1,5 +1,5 @@
 -- The code of each method of a well-formed class file asks for what is there.
-use Rattle.std.proofs.Common.{◌≡◌, ℕ, zero, suc, ◌+◌, ◌<◌, ◌^◌, Bool, true, false, ◌&&◌, cond, ◌-◌, List, [], ◌∷◌, ◌++◌, Option, Some, None, Result, Ok, IsTrue, length, take, drop, ◌==◌, codes, refl, sym, ap, ◌∙◌, subst, arith}
+use Rattle.std.proofs.Common.{◌≡◌, ℕ, zero, suc, ◌+◌, ◌<◌, ◌^◌, Bool, true, false, ◌&&◌, cond, ◌-◌, List, [], ◌∷◌, ◌++◌, Option, Result, Ok, length, take, drop, ◌==◌, codes, refl, sym, ap, ◌∙◌, subst, arith}
 use Rattle.std.specs.Prelude.{nat_le, nat_lt, All, IfSome}
 use Rattle.std.specs.List.{flat_map, list_all, list_any}
 use Rattle.std.specs.Int.{w16, w32}
@@ -26,18 +26,17 @@ use Rattle.fp_model.specs.Decoding.{decoded}
 use Rattle.fp_model.specs.Entries.{tag_at, text_at}
 use Rattle.fp_model.specs.Reading.{behind, bytes_at, counted_at, demanded, many_at, number_at}
 use Rattle.fp_model.specs.References.{each_checked, entries_checked, tagged}
-use Rattle.fp_model.specs.Spelling.{spelled, spelled_boot, spelled_entry, spelled_ins, spelled_plain, spelled_row, u2}
+use Rattle.fp_model.specs.Spelling.{spelled, spelled_boot, spelled_entry, spelled_ins, spelled_plain, spelled_row}
 use Rattle.fp_model.proofs.Readers.{opened, demanded-true, IsBytes}
-use Rattle.fp_attr.specs.Attributes.{argument_checked, attribute_at, body_at, boot_at, boot_checked, boots_at, constant_at, is_called, is_value_tag, unread_at}
+use Rattle.fp_attr.specs.Attributes.{attribute_at, body_at, boot_at, boot_checked, boots_at, is_called, unread_at}
 use Rattle.fp_attr.specs.Codes.{code_at, cut_at, name_checked, row_checked}
-use Rattle.fp_attr.specs.declared.cut.Cut.{Cut}
 use Rattle.fp_attr.specs.declared.owner.Owner.{Owner}
 use Rattle.fp_attr.specs.declared.owner.Owner.TheVariants as owner
 use Rattle.fp_ops.specs.Checked.{are_sound_from, has_row, AreCheckedBoots, IsCheckedPool}
 use Rattle.fp_ops.proofs.DecodedCode.{decoded_sound}
 use Rattle.fp_ops.proofs.Spelled.{decoded_spelled, ok_is}
 use Rattle.fp_class.specs.declared.layout.Layout.{Layout}
-use Rattle.fp_class.specs.ClassFile.{are_boots, boot_number_checked, boots_of, class_attribute_at, class_of, class_owner, entries_start, names_checked, parts_of, rows_or, IsWellFormed}
+use Rattle.fp_class.specs.ClassFile.{are_boots, boot_number_checked, boots_of, class_attribute_at, class_of, entries_start, names_checked, parts_of, rows_or, IsWellFormed}
 use Rattle.fp_class.specs.Layout.{layout_of}
 use Rattle.fp_class.specs.Members.{code_count, counted_after, field_at, is_new, method_at, name_at, wanted_codes, words_at}
 use Rattle.fp_class.specs.MethodCode.{is_sound_code}
@@ -51,10 +50,10 @@ abbrev has_handles : List Entry → RawBody → Bool
 has_handles entries (body.Boot rows) = list_all (λ row. tag_at entries row.method == 15) rows
 has_handles entries _ = true
 
--- the code that it holds asks for what is there
-abbrev is_sound_body : List Entry → List BootRow → RawBody → Bool
-is_sound_body entries boots (body.Code code) = is_sound_code entries boots code
-is_sound_body entries boots _ = true
+-- the code that it holds passes a test
+abbrev pub code_passes : (RawCode → Bool) → RawBody → Bool
+code_passes test (body.Code code) = test code
+code_passes test _ = true
 
 either_passes : (test : RawBody → Bool) (b : Bool) (x y : Result RawBody FileFault) (held : RawBody) → (x ≡ Ok held → test held ≡ true) → (y ≡ Ok held → test held ≡ true) → cond b x y ≡ Ok held → test held ≡ true
 either_passes test true x y held f g e = f e
@@ -67,7 +66,7 @@ unread_passes test plain window at held e =
     subst (λ h. test h ≡ true) (ok_is (body.Bytes run.0) held last) (plain run.0)) e
 
 -- an attribute passes where what it holds does
-attribute_passes : (entries : List Entry) (o : Owner) (bytes : List ℕ) (test : RawBody → Bool) → ((name : Option (List ℕ)) (len_at end at : ℕ) (held : RawBody) → body_at entries o name len_at (take end bytes) at ≡ Ok held → test held ≡ true) → (at : ℕ) (x : RawAttr × ℕ) → attribute_at entries o bytes at ≡ Ok x → test x.0.body ≡ true
+pub attribute_passes : (entries : List Entry) (o : Owner) (bytes : List ℕ) (test : RawBody → Bool) → ((name : Option (List ℕ)) (len_at end at : ℕ) (held : RawBody) → body_at entries o name len_at (take end bytes) at ≡ Ok held → test held ≡ true) → (at : ℕ) (x : RawAttr × ℕ) → attribute_at entries o bytes at ≡ Ok x → test x.0.body ≡ true
 unfolding attribute_at
 attribute_passes entries o bytes test passes at x e =
     opened (number_at w16 bytes at) _ (λ name e0 r0.
@@ -92,7 +91,7 @@ module _ {A : Type 0} (test : A → Bool) (read : ℕ → Result (A × ℕ) File
       let longer : list_all test (before ++ y.0 ∷ []) ≡ true = list_all-append test before (y.0 ∷ []) ∙ and_from (list_all test before) (list_all test (y.0 ∷ [])) passed one in
       many_pass n (before ++ y.0 ∷ []) y.1 x longer rest) e
 
-  counted_pass : (bytes : List ℕ) (at : ℕ) (x : List A × ℕ) → counted_at read bytes at ≡ Ok x → list_all test x.0 ≡ true
+  pub counted_pass : (bytes : List ℕ) (at : ℕ) (x : List A × ℕ) → counted_at read bytes at ≡ Ok x → list_all test x.0 ≡ true
   unfolding counted_at
   counted_pass bytes at x e =
       opened (number_at w16 bytes at) _ (λ count counts rest. many_pass count.0 [] count.1 x refl rest) e
@@ -159,13 +158,43 @@ numbers_have_rows rows at (e ∷ entries) h =
 
 -- ---- the code of a method
 
+-- what a method's attribute holds passes where its code does
+pub method_body_passes : (entries : List Entry) (test : RawCode → Bool) (words : ℕ) (name : Option (List ℕ)) (len_at : ℕ) (window : List ℕ) (at : ℕ) (held : RawBody) → (code_at entries words window at ≡ Ok held → code_passes test held ≡ true) → body_at entries (owner.Method words) name len_at window at ≡ Ok held → code_passes test held ≡ true
+unfolding body_at
+method_body_passes entries test words name len_at window at held passes e =
+    either_passes (code_passes test) (is_called name (codes "Code")) _ _ held passes (unread_passes (code_passes test) (λ run. refl) window at held) e
+
+or_passes : (test : RawCode → Bool) (held : RawBody) (others : Option RawCode) → code_passes test held ≡ true → IfSome others (λ code. test code ≡ true) → IfSome (code_or held others) (λ code. test code ≡ true)
+or_passes test (body.Code code) others one more = one
+or_passes test held others one more = more
+
+code_of_passes : (test : RawCode → Bool) (attributes : List RawAttr) → list_all (λ attr. code_passes test attr.body) attributes ≡ true → IfSome (code_of attributes) (λ code. test code ≡ true)
+code_of_passes test [] e = tt
+code_of_passes test (attr ∷ attributes) e =
+    let parts = and_parts (code_passes test attr.body) (list_all (λ a. code_passes test a.body) attributes) e in
+    or_passes test attr.body (code_of attributes) parts.0 (code_of_passes test attributes parts.1)
+
+-- each code of a method passes a test, by that of all that its attributes hold
+module _ (test : RawMember → RawCode → Bool) where
+  abbrev pub bodies_pass : RawMember → Bool
+  bodies_pass method = list_all (λ attr. code_passes (test method) attr.body) method.attributes
+
+  abbrev HasPassing : RawMember → Type 0
+  HasPassing method = IfSome (code_of method.attributes) (λ code. test method code ≡ true)
+
+  pub codes_pass : (methods : List RawMember) → list_all bodies_pass methods ≡ true → All HasPassing methods
+  codes_pass [] e = All-nil HasPassing
+  codes_pass (method ∷ methods) e =
+      let parts = and_parts (bodies_pass method) (list_all bodies_pass methods) e in
+      All-cons HasPassing method methods (code_of_passes (test method) method.attributes parts.0) (codes_pass methods parts.1)
+
 module _ (entries : List Entry) (boots : List BootRow) (checked : IsCheckedPool entries) (computed : AreCheckedBoots entries boots) where
-  made_sound : (max_stack max_locals : ℕ) (code : List RawIns) (rows : List CatchRow) (attributes : List RawAttr) → are_sound_from entries boots 0 code ≡ true → nat_lt (length (flat_map spelled_ins code)) 65536 ≡ true → is_sound_body entries boots (body.Code (roll-RawCode (record { max_stack = max_stack; max_locals = max_locals; code = code; rows = rows; attributes = attributes }))) ≡ true
+  made_sound : (max_stack max_locals : ℕ) (code : List RawIns) (rows : List CatchRow) (attributes : List RawAttr) → are_sound_from entries boots 0 code ≡ true → nat_lt (length (flat_map spelled_ins code)) 65536 ≡ true → code_passes (is_sound_code entries boots) (body.Code (roll-RawCode (record { max_stack = max_stack; max_locals = max_locals; code = code; rows = rows; attributes = attributes }))) ≡ true
   made_sound max_stack max_locals code rows attributes sound short =
       rw (out-roll-RawCode (record { max_stack = max_stack; max_locals = max_locals; code = code; rows = rows; attributes = attributes }))
       (and_from (are_sound_from entries boots 0 code) (nat_lt (length (flat_map spelled_ins code)) 65536) sound short)
 
-  code_sound : (words : ℕ) (window : List ℕ) → length window < 2 ^ 32 → (at : ℕ) (held : RawBody) → code_at entries words window at ≡ Ok held → is_sound_body entries boots held ≡ true
+  code_sound : (words : ℕ) (window : List ℕ) → length window < 2 ^ 32 → (at : ℕ) (held : RawBody) → code_at entries words window at ≡ Ok held → code_passes (is_sound_code entries boots) held ≡ true
   unfolding code_at
   code_sound words window small at held e =
       opened (cut_at window at) _ (λ cut e0 r0.
@@ -181,25 +210,20 @@ module _ (entries : List Entry) (boots : List BootRow) (checked : IsCheckedPool 
       let spells = decoded_spelled entries cut.max_locals cut.len window cut.start code decodes in
       let short : length (flat_map spelled_ins code) < 65536 = omega (arith, ap length spells, length-take cut.len (drop cut.start window), below) in
       let made : RawBody = body.Code (roll-RawCode (record { max_stack = cut.max_stack; max_locals = cut.max_locals; code = code; rows = cut.rows; attributes = cut.attributes })) in
-      subst (λ h. is_sound_body entries boots h ≡ true) (ok_is made held last)
+      subst (λ h. code_passes (is_sound_code entries boots) h ≡ true) (ok_is made held last)
       (made_sound cut.max_stack cut.max_locals code cut.rows cut.attributes sound (lt-ltb (length (flat_map spelled_ins code)) 65536 short))
       ) r5) r4) r3) r2) r1) r0) e
 
-  method_body_sound : (words : ℕ) (name : Option (List ℕ)) (len_at : ℕ) (window : List ℕ) → length window < 2 ^ 32 → (at : ℕ) (held : RawBody) → body_at entries (owner.Method words) name len_at window at ≡ Ok held → is_sound_body entries boots held ≡ true
-  unfolding body_at
-  method_body_sound words name len_at window small at held e =
-      either_passes (is_sound_body entries boots) (is_called name (codes "Code")) _ _ held (code_sound words window small at held) (unread_passes (is_sound_body entries boots) (λ run. refl) window at held) e
-
-  attribute_sound : (words : ℕ) (bytes : List ℕ) → length bytes < 2 ^ 32 → (at : ℕ) (x : RawAttr × ℕ) → attribute_at entries (owner.Method words) bytes at ≡ Ok x → is_sound_body entries boots x.0.body ≡ true
+  attribute_sound : (words : ℕ) (bytes : List ℕ) → length bytes < 2 ^ 32 → (at : ℕ) (x : RawAttr × ℕ) → attribute_at entries (owner.Method words) bytes at ≡ Ok x → code_passes (is_sound_code entries boots) x.0.body ≡ true
   attribute_sound words bytes small =
-      attribute_passes entries (owner.Method words) bytes (is_sound_body entries boots) (λ name len_at end at held h.
+      attribute_passes entries (owner.Method words) bytes (code_passes (is_sound_code entries boots)) (λ name len_at end at held h.
       let window : length (take end bytes) < 2 ^ 32 = omega (arith, length-take end bytes, small) in
-      method_body_sound words name len_at (take end bytes) window at held h)
+      method_body_passes entries (is_sound_code entries boots) words name len_at (take end bytes) at held (code_sound words (take end bytes) window at held) h)
 
   -- ---- the methods
 
   abbrev are_sound : RawMember → Bool
-  are_sound method = list_all (λ attr. is_sound_body entries boots attr.body) method.attributes
+  are_sound = bodies_pass (λ method. is_sound_code entries boots)
 
   method_sound : (bytes : List ℕ) → length bytes < 2 ^ 32 → (before : List RawMember) (at : ℕ) (x : RawMember × ℕ) → method_at entries bytes before at ≡ Ok x → are_sound x.0 ≡ true
   unfolding method_at
@@ -216,27 +240,8 @@ module _ (entries : List Entry) (boots : List BootRow) (checked : IsCheckedPool 
       let made : RawMember = record { flags = flags.0; name = name.0; descr = descr.0; attributes = attributes.0 } in
       let is : (made, attributes.1) ≡ x = cc in
       subst (λ (y : RawMember × ℕ). are_sound y.0 ≡ true) is
-      (counted_pass (λ attr. is_sound_body entries boots attr.body) (attribute_at entries (owner.Method words) bytes) (attribute_sound words bytes small) bytes descr.1 attributes e8)
+      (counted_pass (λ attr. code_passes (is_sound_code entries boots) attr.body) (attribute_at entries (owner.Method words) bytes) (attribute_sound words bytes small) bytes descr.1 attributes e8)
       ) r7) r6) r5) r4) r3) r2) r1) r0) e
-
-  or_sound : (held : RawBody) (others : Option RawCode) → is_sound_body entries boots held ≡ true → IfSome others (λ code. is_sound_code entries boots code ≡ true) → IfSome (code_or held others) (λ code. is_sound_code entries boots code ≡ true)
-  or_sound (body.Code code) others one more = one
-  or_sound held others one more = more
-
-  code_of_sound : (attributes : List RawAttr) → list_all (λ attr. is_sound_body entries boots attr.body) attributes ≡ true → IfSome (code_of attributes) (λ code. is_sound_code entries boots code ≡ true)
-  code_of_sound [] e = tt
-  code_of_sound (attr ∷ attributes) e =
-      let parts = and_parts (is_sound_body entries boots attr.body) (list_all (λ a. is_sound_body entries boots a.body) attributes) e in
-      or_sound attr.body (code_of attributes) parts.0 (code_of_sound attributes parts.1)
-
-  abbrev HasSoundCode : RawMember → Type 0
-  HasSoundCode method = IfSome (code_of method.attributes) (λ code. is_sound_code entries boots code ≡ true)
-
-  have_sound_codes : (methods : List RawMember) → list_all are_sound methods ≡ true → All HasSoundCode methods
-  have_sound_codes [] e = All-nil HasSoundCode
-  have_sound_codes (method ∷ methods) e =
-      let parts = and_parts (are_sound method) (list_all are_sound methods) e in
-      All-cons HasSoundCode method methods (code_of_sound method.attributes parts.0) (have_sound_codes methods parts.1)
 
 -- ---- the file
 
@@ -259,7 +264,7 @@ parts_sound bytes below small layout raw checked e =
       rows = numbers_have_rows boots entries_start entries e3;
     } in
     let sound = counted_formed (are_sound entries boots checked computed) (method_at entries bytes) (method_sound entries boots checked computed bytes small) bytes below fields.1 methods e1 in
-    subst HaveSoundCodes is (have_sound_codes entries boots checked computed methods.0 sound.1)
+    subst HaveSoundCodes is (codes_pass (λ method. is_sound_code entries boots) methods.0 sound.1)
     ) r2) r1) r0) e
 
 file_sound : (bytes : List ℕ) → IsBytes bytes → length bytes < 2 ^ 32 → (raw : Raw) → class_of bytes ≡ Ok raw → HaveSoundCodes raw

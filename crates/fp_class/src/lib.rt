@@ -15,7 +15,7 @@ mod texts;
 
 pub use code::to_code;
 pub use file::read_class;
-pub use law::{law_one_class, law_sound_codes, law_spelling};
+pub use law::{law_one_class, law_sound_codes, law_sound_methods, law_spelling};
 pub use naming::to_class;
 
 #[cfg(test)]
