@@ -1,11 +1,12 @@
 //! Class files in numbers of a table of names.
-ghost use Rattle.std.specs.Prelude.{◌≡◌, ◌^◌, ◌<◌, ◌↔◌, IsNone, [], ◌∷◌, length, true, slice_get, unwrap_or, is_some, IsTrue, IfOk, IfSome, OnOk};
+ghost use Rattle.std.specs.Prelude.{◌≡◌, All, ◌^◌, ◌<◌, ◌↔◌, IsNone, [], ◌∷◌, length, true, slice_get, unwrap_or, is_some, IsTrue, IfOk, IfSome, OnOk};
 ghost use Rattle.std.specs.List.{list_all, flat_map, AllZip};
 ghost use Rattle.std.specs.Option.{option_to_list};
 ghost use Rattle.fp_class.specs.Classes.{field_names, raw_names, IsClassOf};
 ghost use Rattle.fp_model.specs.Descriptor.{is_field_descriptor, kind_names, IsKindOf};
 ghost use Rattle.fp_model.specs.Entries.{passes, class_name_at, is_class_index, text_at};
 ghost use Rattle.fp_model.specs.Interning.{Interned};
+ghost use Rattle.fp_model.specs.SoundCode.{IsSoundMethod};
 ghost use Rattle.fp_model.specs.Taking.{Taken};
 ghost use Rattle.fp_ops.specs.Checked.{is_short_entry};
 ghost use Rattle.fp_class.specs.ClassFile.{is_module, IsWellFormed};
@@ -279,6 +280,8 @@ pub fn to_class(alloc: Global, raw: &Raw, names: &mut Names) -> Result<Option<Cl
     requires { IsWellFormed raw.now }
     // It is the class of the file.
     ensures class { IfOk result (λ c. IfSome c (λ class. IsClassOf names.new class raw.now)) }
+    // The code of its methods is sound.
+    ensures sound { IfOk result (λ c. IfSome c (λ class. All IsSoundMethod class.methods)) }
     // There is none exactly for a module.
     ensures none { IfOk result (λ c. IsNone c ↔ (is_module raw.now.flags ≡ true)) }
     // The table has each text of the class once, behind what it had; it is full only where it would have too many with all
