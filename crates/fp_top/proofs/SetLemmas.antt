@@ -1,100 +1,57 @@
 -- The one class of a file as a set.
-use Rattle.std.proofs.Common.{◌≡◌, ℕ, ◌+◌, ◌-◌, ◌*◌, ◌<◌, ◌≤◌, ◌==◌, Bool, true, false, List, [], ◌∷◌, ◌++◌, length, take, drop, Option, Some, None, Result, Ok, Err, refl, sym, ap, subst, ◌∙◌, length-append, arith}
+use Rattle.std.proofs.Common.{◌≡◌, ℕ, ◌+◌, ◌-◌, ◌*◌, ◌<◌, ◌≤◌, ◌==◌, Bool, true, false, List, [], ◌∷◌, ◌++◌, length, take, drop, Option, Some, None, Result, Ok, Err, nat_lt, refl, sym, ap, ap₂, subst, ◌∙◌, length-append, arith}
 use Rattle.std.specs.Prelude.{◌↔◌, All, IfOk, IfErr, IfSome, IsNone, OnOk, unwrap_or, if◌then◌else◌}
 use Rattle.std.specs.List.{flat_map, AllZip}
 use Rattle.std.specs.Option.{option_to_list}
-use Rattle.std.proofs.lemmas.Bool.{cond-false, cond-true, false_from_ne_true, ltb-true}
+use Rattle.std.proofs.lemmas.Bool.{cond-false, cond-true, false_from_ne_true, ge-ltb, lt-ltb, ltb-true}
 use Rattle.std.proofs.lemmas.List.Elements.{All-cons, All-nil}
 use Rattle.fp_base.specs.Names.{AreDistinct, with_names}
 use Rattle.fp_base.proofs.NameLemmas.{AreDistinct-nil, AreDistinct-with_names}
 use Rattle.fp_model.specs.declared.class.Class.{Class}
 use Rattle.fp_model.specs.declared.class.Field.{Field}
+use Rattle.fp_model.specs.declared.limit.LimitName.TheVariants as limit
 use Rattle.fp_model.specs.declared.raw.Raw.{Raw}
 use Rattle.fp_model.specs.declared.raw.RawMember.{RawMember}
 use Rattle.fp_model.specs.declared.raw.pool.Entry.{Entry}
 use Rattle.fp_model.specs.Descriptor.{dimensions, element_names}
 use Rattle.fp_model.specs.Entries.{text_at, class_name_at}
-use Rattle.fp_class.specs.ClassFile.{is_module, IsWellFormed}
+use Rattle.fp_class.specs.ClassFile.{boots_of, is_module, IsWellFormed}
 use Rattle.fp_class.specs.Naming.{taken_names}
 use Rattle.fp_class.proofs.Facts.{facts_of}
-use Rattle.fp_class.specs.Classes.{IsClassOf, IsFieldOf, class_in, raw_names, field_names}
+use Rattle.fp_class.specs.Classes.{IsClassOf, IsFieldOf, IsMethodOf, class_in}
 use Rattle.fp_model.specs.ClassSet.{SetView, AreFew, IsClassOver, refusal_of}
 use Rattle.fp_class.proofs.OneClass.{one_class}
 use Rattle.fp_words.specs.Words.{RunAsked}
 use Rattle.fp_top.specs.declared.refusal.Refusal.{Refusal}
 use Rattle.fp_top.specs.declared.refusal.Refusal.TheVariants as refusal
-use Rattle.fp_top.specs.Outcome.{outcome_of_raw, outcome_of_set, outcome_of_sound, set_of}
+use Rattle.fp_top.specs.declared.status.Status.TheVariants as status
+use Rattle.fp_top.specs.Outcome.{limit_text, most_names, outcome_of_raw, outcome_of_set, outcome_of_sound, set_of}
+use Rattle.fp_top.specs.Outcome.Outcome.{Refuse}
 use Rattle.fp_top.specs.Refusal.{Says}
-use Rattle.fp_top.specs.SetRefusal.{IsOfSet}
+use Rattle.fp_top.specs.SetRefusal.{IsOfNames, IsOfSet}
 
 -- ---- how much a file has
 
-few_lists : (raw : Raw) → IsWellFormed raw → (length raw.interfaces < 65536) × (length raw.fields < 65536)
+few_lists : (raw : Raw) → IsWellFormed raw → (length raw.fields < 65536) × (length raw.methods < 65536)
 few_lists raw formed =
     let facts = facts_of raw formed in
-    (ltb-true (length raw.interfaces) 65536 facts.few_interfaces, ltb-true (length raw.fields) 65536 facts.few_fields)
+    (ltb-true (length raw.fields) 65536 facts.few_fields, ltb-true (length raw.methods) 65536 facts.few_methods)
 
-few_in_option : (o : Option (List ℕ)) → length (option_to_list o) ≤ 1
-few_in_option None = omega arith
-few_in_option (Some text) = omega arith
-
-few_chosen : (b : Bool) (text : List ℕ) → length (if b then text ∷ [] else []) ≤ 1
-few_chosen true text = omega arith
-few_chosen false text = omega arith
-
-few_in_element : (text : List ℕ) → length (element_names text) ≤ 1
-few_in_element [] = omega arith
-few_in_element (c ∷ rest) = few_chosen (c == 76) (take (length rest - 1) rest)
-
-few_in_field : (entries : List Entry) (field : RawMember) → length (field_names entries field) ≤ 3
-few_in_field entries field =
-    let descr = unwrap_or (text_at entries field.descr) [] in
-    omega (arith, few_in_element (drop (dimensions descr) descr))
-
-length-flat_map : {A : Type 0} (f : A → List (List ℕ)) (most : ℕ) → ((x : A) → length (f x) ≤ most) → (xs : List A) → length (flat_map f xs) ≤ most * length xs
-length-flat_map f most few [] = omega arith
-length-flat_map f most few (x ∷ xs) =
-    omega (arith, few x, length-flat_map f most few xs, length-append (f x) (flat_map f xs))
-
-few_raw_names : (raw : Raw) → IsWellFormed raw → length (raw_names raw) < 16777216
-few_raw_names raw formed =
-    let entries = raw.pool.entries in
-    let this = option_to_list (class_name_at entries raw.this) in
-    let parent = option_to_list (class_name_at entries raw.parent) in
-    let interfaces = flat_map (λ (index : ℕ). option_to_list (class_name_at entries index)) raw.interfaces in
-    let fields = flat_map (field_names entries) raw.fields in
-    let few = few_lists raw formed in
-    let a : length (this ++ (parent ++ (interfaces ++ fields))) ≡ length this + length (parent ++ (interfaces ++ fields)) = length-append this (parent ++ (interfaces ++ fields)) in
-    let b : length (parent ++ (interfaces ++ fields)) ≡ length parent + length (interfaces ++ fields) = length-append parent (interfaces ++ fields) in
-    let d : length (interfaces ++ fields) ≡ length interfaces + length fields = length-append interfaces fields in
-    let e : length this ≤ 1 = few_in_option (class_name_at entries raw.this) in
-    let f : length parent ≤ 1 = few_in_option (class_name_at entries raw.parent) in
-    let g : length interfaces ≤ 1 * length raw.interfaces = length-flat_map (λ (index : ℕ). option_to_list (class_name_at entries index)) 1 (λ index. few_in_option (class_name_at entries index)) raw.interfaces in
-    let h : length fields ≤ 3 * length raw.fields = length-flat_map (field_names entries) 3 (few_in_field entries) raw.fields in
-    omega (arith, few.0, few.1, a, b, d, e, f, g, h)
-
-few_taken : (none : Bool) (names : List (List ℕ)) → length names < 16777216 → length (if none then [] else names) < 16777216
-few_taken true names few = omega arith
-few_taken false names few = few
-
--- fewer names than a table may hold
-pub few_names : (raw : Raw) → IsWellFormed raw → length (taken_names raw) < 16777216
-few_names raw formed = few_taken (is_module raw.flags) (raw_names raw) (few_raw_names raw formed)
-
-same_length : (names : List (List ℕ)) (entries : List Entry) (fields : List Field) (members : List RawMember) → AllZip (IsFieldOf names entries) fields members → length fields ≡ length members
-same_length names entries [] [] all = refl
-same_length names entries [] (m ∷ members) all = absurd all
-same_length names entries (f ∷ fields) [] all = absurd all
-same_length names entries (f ∷ fields) (m ∷ members) all = omega (arith, same_length names entries fields members all.1)
+length-AllZip : {A B : Type 0} (P : A → B → Type 0) (xs : List A) (ys : List B) → AllZip P xs ys → length xs ≡ length ys
+length-AllZip P [] [] all = refl
+length-AllZip P [] (y ∷ ys) all = absurd all
+length-AllZip P (x ∷ xs) [] all = absurd all
+length-AllZip P (x ∷ xs) (y ∷ ys) all = omega (arith, length-AllZip P xs ys all.1)
 
 few_of_class : (names : List (List ℕ)) (c : Class) (raw : Raw) → IsWellFormed raw → IsClassOf names c raw → AreFew (c ∷ [])
 few_of_class names c raw formed of =
     let few = few_lists raw formed in
-    let long = same_length names raw.pool.entries c.fields raw.fields of.fields in
+    let long = length-AllZip (IsFieldOf names raw.pool.entries) c.fields raw.fields of.fields in
+    let many = length-AllZip (IsMethodOf names raw.pool.entries (boots_of raw.attributes)) c.methods raw.methods of.methods in
     record {
       classes = omega arith;
-      fields = omega (arith, few.1, long, length-append c.fields []);
-      methods = omega (arith, ap length of.methods, length-append c.methods []);
+      fields = omega (arith, few.0, long, length-append c.fields []);
+      methods = omega (arith, many, few.1, length-append c.methods []);
     }
 
 -- the class of a file, if it has one, has few members
@@ -141,19 +98,45 @@ says-of-set asked set (refusal.Selection item) is = absurd is
 says-of-set asked set (refusal.Limit bound most) is = absurd is
 says-of-set asked set refusal.Memory is = tt
 
-pub judged : (names : List (List ℕ)) (c : Option Class) (raw : Raw) (result : Result SetView Refusal) → alone names c ≡ set_of raw
+-- no more texts than a table may hold
+few-taken : (raw : Raw) (asked : RunAsked) (names : List (List ℕ)) → names ≡ with_names [] (taken_names raw) → length names ≤ most_names → outcome_of_raw asked raw ≡ outcome_of_set (set_of raw) asked (refusal_of (set_of raw))
+few-taken raw asked names table few =
+    cond-false (nat_lt most_names (length (with_names [] (taken_names raw)))) (Refuse status.Limit (limit_text limit.Names most_names)) (outcome_of_set (set_of raw) asked (refusal_of (set_of raw)))
+    (ge-ltb most_names (length (with_names [] (taken_names raw))) (subst (λ (n : List (List ℕ)). length n ≤ most_names) table few))
+
+pub judged : (names : List (List ℕ)) (c : Option Class) (raw : Raw) (result : Result SetView Refusal) → names ≡ with_names [] (taken_names raw) → length names ≤ most_names → alone names c ≡ set_of raw
     → IfOk result (λ set. set ≡ alone names c) → OnOk result (refusal_of (alone names c) ≡ None) → IfOk result (λ set. (asked : RunAsked) → outcome_of_raw asked raw ≡ outcome_of_sound set asked)
-judged names c raw (Ok set) same is sound = λ asked.
-    ap (λ (x : SetView). outcome_of_set x asked (refusal_of x)) (sym same)
+judged names c raw (Ok set) table few same is sound = λ asked.
+    few-taken raw asked names table few
+    ∙ ap (λ (x : SetView). outcome_of_set x asked (refusal_of x)) (sym same)
     ∙ ap (outcome_of_set (alone names c) asked) sound
     ∙ ap (λ (x : SetView). outcome_of_sound x asked) (sym is)
-judged names c raw (Err r) same is sound = tt
+judged names c raw (Err r) table few same is sound = tt
 
-pub refused : (names : List (List ℕ)) (c : Option Class) (raw : Raw) (result : Result SetView Refusal) → alone names c ≡ set_of raw
+pub refused : (names : List (List ℕ)) (c : Option Class) (raw : Raw) (result : Result SetView Refusal) → names ≡ with_names [] (taken_names raw) → length names ≤ most_names → alone names c ≡ set_of raw
     → IfErr result (λ r. IsOfSet (refusal_of (alone names c)) r) → IfErr result (λ r. (asked : RunAsked) → Says (outcome_of_raw asked raw) r)
-refused names c raw (Ok set) same is = tt
-refused names c raw (Err r) same is = λ asked.
-    subst (λ (x : SetView). Says (outcome_of_set x asked (refusal_of x)) r) same (says-of-set asked (alone names c) r is)
+refused names c raw (Ok set) table few same is = tt
+refused names c raw (Err r) table few same is = λ asked.
+    subst (λ o. Says o r) (sym (few-taken raw asked names table few))
+    (subst (λ (x : SetView). Says (outcome_of_set x asked (refusal_of x)) r) same (says-of-set asked (alone names c) r is))
+
+-- more texts than a table may hold
+says-of-names : (asked : RunAsked) (raw : Raw) (r : Refusal) → IsOfNames (taken_names raw) r → Says (outcome_of_raw asked raw) r
+says-of-names asked raw refusal.Usage is = absurd is
+says-of-names asked raw (refusal.Read path) is = tt
+says-of-names asked raw (refusal.Unbuilt path at) is = absurd is
+says-of-names asked raw (refusal.File path why) is = absurd is
+says-of-names asked raw (refusal.Duplicate name) is = absurd is
+says-of-names asked raw (refusal.Cycle name) is = absurd is
+says-of-names asked raw (refusal.Selection item) is = absurd is
+says-of-names asked raw (refusal.Limit bound most) is =
+    cond-true (nat_lt most_names (length (with_names [] (taken_names raw)))) (Refuse status.Limit (limit_text limit.Names most_names)) (outcome_of_set (set_of raw) asked (refusal_of (set_of raw))) (lt-ltb most_names (length (with_names [] (taken_names raw))) is.2)
+    ∙ ap₂ (λ b m. Refuse status.Limit (limit_text b m)) (sym is.0) (sym is.1)
+says-of-names asked raw refusal.Memory is = tt
+
+pub crowded : (raw : Raw) (result : Result (Option Class) Refusal) → IfErr result (IsOfNames (taken_names raw)) → IfErr result (λ r. (asked : RunAsked) → Says (outcome_of_raw asked raw) r)
+crowded raw (Ok c) is = tt
+crowded raw (Err r) is = λ asked. says-of-names asked raw r is
 
 -- the set of the class that was read into an empty table is that of the file
 pub read-is : (names : List (List ℕ)) (c : Option Class) (raw : Raw) → names ≡ with_names [] (taken_names raw) → IfSome c (λ class. IsClassOf names class raw) → (IsNone c ↔ (is_module raw.flags ≡ true)) → alone names c ≡ set_of raw

@@ -6,9 +6,8 @@ use Rattle.fp_base.specs.Files.{File, bytes_at, class_paths}
 use Rattle.fp_base.specs.Names.{with_names}
 use Rattle.fp_model.specs.declared.fault.FileFault.{FileFault}
 use Rattle.fp_model.specs.declared.raw.Raw.{Raw}
-use Rattle.fp_model.specs.declared.raw.RawMember.{RawMember}
 use Rattle.fp_model.specs.declared.limit.LimitName.{LimitName}
-use Rattle.fp_model.specs.declared.limit.LimitName.TheVariants.{Places}
+use Rattle.fp_model.specs.declared.limit.LimitName.TheVariants.{Names, Places}
 use Rattle.fp_model.specs.Limits.{limit_name_text}
 use Rattle.fp_class.specs.ClassFile.{class_of, is_module}
 use Rattle.fp_class.specs.Classes.{class_in}
@@ -101,18 +100,19 @@ set_of raw =
     let names = with_names [] (taken_names raw) in
     record { classes = if is_module raw.flags then [] else class_in names raw ∷ []; names = names }
 
--- the outcome of a class file without methods
-abbrev pub outcome_of_raw : RunAsked → Raw → Outcome
-outcome_of_raw asked raw = outcome_of_set (set_of raw) asked (refusal_of (set_of raw))
+-- how many names there may be
+abbrev pub most_names : ℕ
+most_names = 16777216
 
--- the outcome of a class file by its methods, which are not read yet
-abbrev pub outcome_of_methods : RunAsked → List ℕ → Raw → List RawMember → Outcome
-outcome_of_methods asked path raw [] = outcome_of_raw asked raw
-outcome_of_methods asked path raw (method ∷ methods) = Refuse status.Refused (unbuilt_text path 0)
+-- the outcome of a class file
+abbrev pub outcome_of_raw : RunAsked → Raw → Outcome
+outcome_of_raw asked raw =
+    if nat_lt most_names (length (with_names [] (taken_names raw))) then Refuse status.Limit (limit_text Names most_names)
+    else outcome_of_set (set_of raw) asked (refusal_of (set_of raw))
 
 -- the outcome of a class file, or of the first fault
 abbrev pub outcome_of_read : RunAsked → List ℕ → Result Raw FileFault → Outcome
-outcome_of_read asked path (Ok raw) = outcome_of_methods asked path raw raw.methods
+outcome_of_read asked path (Ok raw) = outcome_of_raw asked raw
 outcome_of_read asked path (Err fault) = Refuse status.Refused (fault_line path fault)
 
 -- the outcome of a file's bytes

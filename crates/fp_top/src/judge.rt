@@ -6,15 +6,14 @@ ghost use Rattle.fp_class.specs.Classes.{IsClassOf};
 ghost use Rattle.fp_class.specs.Naming.{taken_names};
 ghost use Rattle.fp_model.specs.ClassSet.{IsClassOver, AreFew, refusal_of};
 ghost use Rattle.fp_words.specs.Words.{RunAsked};
-ghost use Rattle.fp_top.specs.Outcome.{outcome_of_methods, outcome_of_raw, outcome_of_read, outcome_of_sound};
+ghost use Rattle.fp_top.specs.Outcome.{most_names, outcome_of_raw, outcome_of_read, outcome_of_sound};
 ghost use Rattle.fp_top.specs.Refusal.{Says, IsFile, IsOfFile};
-ghost use Rattle.fp_top.specs.SetRefusal.{IsOfSet};
+ghost use Rattle.fp_top.specs.SetRefusal.{IsOfNames, IsOfSet};
 
-use crate::load::unbuilt;
 use crate::refusal::Refusal;
-use fp_base::{NameFault, Names};
+use fp_base::{MAX_NAMES, NameFault, Names};
 use fp_class::{read_class, to_class};
-use fp_model::{Class, ClassSet, FileFault, Raw, SetFault};
+use fp_model::{Class, ClassSet, FileFault, LimitName, Raw, SetFault};
 use std::alloc::{AllocError, Global};
 
 /// The set of the class of a file.
@@ -25,7 +24,7 @@ pub fn judge(alloc: Global, path: &str, bytes: &[u8]) -> Result<ClassSet, Refusa
     ensures own { IfErr result IsOfFile }
 {
     match read_class(alloc, bytes) {
-        Ok(raw) => judge_file(alloc, path, &raw),
+        Ok(raw) => judge_raw(alloc, &raw),
         Err(fault) => Err(refused(alloc, path, fault)),
     }
 }
@@ -43,23 +42,9 @@ fn refused(alloc: Global, path: &str, fault: FileFault) -> Refusal
     }
 }
 
-/// The set of the class of a class file. Methods are not read yet.
-fn judge_file(alloc: Global, path: &str, raw: &Raw) -> Result<ClassSet, Refusal>
-    requires { IsWellFormed raw.now }
-    ensures set { IfOk result (λ set. (asked : RunAsked) → outcome_of_methods asked path.now raw.now raw.now.methods ≡ outcome_of_sound set asked) }
-    ensures refusal { IfErr result (λ refusal. (asked : RunAsked) → Says (outcome_of_methods asked path.now raw.now raw.now.methods) refusal) }
-    ensures own { IfErr result IsOfFile }
-{
-    if raw.methods.len() != 0 {
-        return Err(unbuilt(alloc, path, 0));
-    }
-    judge_raw(alloc, raw)
-}
-
-/// The set of the class of a class file without methods.
+/// The set of the class of a class file.
 fn judge_raw(alloc: Global, raw: &Raw) -> Result<ClassSet, Refusal>
-    requires formed { IsWellFormed raw.now }
-    requires methods { raw.now.methods ≡ [] }
+    requires { IsWellFormed raw.now }
     ensures set { IfOk result (λ set. (asked : RunAsked) → outcome_of_raw asked raw.now ≡ outcome_of_sound set asked) }
     ensures refusal { IfErr result (λ refusal. (asked : RunAsked) → Says (outcome_of_raw asked raw.now) refusal) }
     ensures own { IfErr result IsOfFile }
@@ -75,16 +60,16 @@ fn judge_raw(alloc: Global, raw: &Raw) -> Result<ClassSet, Refusal>
 /// The class of a file, in numbers of an empty table of names; a module has none.
 fn class_of_file(alloc: Global, raw: &Raw, names: &mut Names) -> Result<Option<Class>, Refusal>
     requires formed { IsWellFormed raw.now }
-    requires methods { raw.now.methods ≡ [] }
     requires empty { names.old ≡ [] }
     ensures class { IfOk result (λ c. IfSome c (λ class. IsClassOf names.new class raw.now)) }
     ensures none { IfOk result (λ c. IsNone c ↔ (is_module raw.now.flags ≡ true)) }
     ensures names { OnOk result (names.new ≡ with_names [] (taken_names raw.now)) }
-    ensures memory { IfErr result (λ refusal. refusal ≡ Refusal.Memory) }
+    ensures few { length names.new ≤ most_names }
+    ensures refusal { IfErr result (IsOfNames (taken_names raw.now)) }
 {
     match to_class(alloc, raw, names) {
         Ok(class) => Ok(class),
-        Err(NameFault::Full) => unreachable!(),
+        Err(NameFault::Full) => Err(Refusal::Limit(LimitName::Names, MAX_NAMES as u64)),
         Err(NameFault::Memory) => Err(Refusal::Memory),
     }
 }

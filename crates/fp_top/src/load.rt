@@ -85,7 +85,7 @@ fn unread(alloc: Global, path: &str) -> Refusal
 }
 
 /// That what is at a path is not read yet.
-pub fn unbuilt(alloc: Global, path: &str, at: u64) -> Refusal
+fn unbuilt(alloc: Global, path: &str, at: u64) -> Refusal
     ensures { IsUnbuilt path.now at result }
 {
     match String::from_str(alloc, path) {

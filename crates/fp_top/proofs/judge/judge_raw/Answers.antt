@@ -1,4 +1,4 @@
-use Rattle.fp_top.proofs.SetLemmas.{AreFew-listed, judged, over-listed, read-is, refused}
+use Rattle.fp_top.proofs.SetLemmas.{AreFew-listed, crowded, judged, over-listed, read-is, refused}
 use Rattle.fp_top.proofs.judge.judge_raw.Goals as goal
 
 pub set_of-requires-clause-over : goal.set_of-requires-clause-over
@@ -7,16 +7,16 @@ set_of-requires-clause-over c =
 
 pub set_of-requires-clause-few : goal.set_of-requires-clause-few
 set_of-requires-clause-few c =
-    AreFew-listed c.class_of_file.new.names c.in-Ok.class c.args.raw.now c.requires.formed c.in-Ok.ensures.class
+    AreFew-listed c.class_of_file.new.names c.in-Ok.class c.args.raw.now c.requires c.in-Ok.ensures.class
 
 pub returns-clause-set : goal.returns-clause-set
 returns-clause-set c =
-    judged c.class_of_file.new.names c.in-Ok.class c.args.raw.now c.set_of.result
+    judged c.class_of_file.new.names c.in-Ok.class c.args.raw.now c.set_of.result c.in-Ok.ensures.names c.class_of_file.ensures.few
     (read-is c.class_of_file.new.names c.in-Ok.class c.args.raw.now c.in-Ok.ensures.names c.in-Ok.ensures.class c.in-Ok.ensures.none)
     c.set_of.ensures.set c.set_of.ensures.sound
 
 pub returns-clause-refusal : goal.returns-clause-refusal
 returns-clause-refusal c =
-    refused c.class_of_file.new.names c.in-Ok.class c.args.raw.now c.set_of.result
+    refused c.class_of_file.new.names c.in-Ok.class c.args.raw.now c.set_of.result c.in-Ok.ensures.names c.class_of_file.ensures.few
     (read-is c.class_of_file.new.names c.in-Ok.class c.args.raw.now c.in-Ok.ensures.names c.in-Ok.ensures.class c.in-Ok.ensures.none)
     c.set_of.ensures.refusal
