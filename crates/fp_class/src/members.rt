@@ -6,6 +6,7 @@ ghost use Rattle.fp_model.specs.declared.raw.pool.Entry.{Entry};
 ghost use Rattle.fp_model.specs.declared.raw.RawMember.{RawMember};
 ghost use Rattle.fp_model.specs.Descriptor.{is_field_descriptor};
 ghost use Rattle.fp_model.specs.Entries.{passes, text_at};
+ghost use Rattle.fp_model.specs.Flags.{is_static};
 ghost use Rattle.fp_model.specs.Reading.{Gives, counted_at, many_at};
 ghost use Rattle.fp_model.specs.References.{tagged, text_checked};
 ghost use Rattle.fp_attr.specs.Attributes.{attribute_at, is_called};
