@@ -42,6 +42,7 @@ use Rattle.fp_class.specs.Layout.{layout_of}
 use Rattle.fp_class.specs.Members.{code_count, counted_after, field_at, is_new, method_at, name_at, wanted_codes, words_at}
 use Rattle.fp_class.specs.MethodCode.{is_sound_code}
 use Rattle.fp_class.specs.Methods.{code_of, code_or}
+use Rattle.fp_class.specs.Naming.{HasSoundCode}
 use Rattle.fp_class.proofs.Facts.{counted_formed, layout_facts}
 
 -- ---- what an attribute holds, by a test of it
@@ -229,19 +230,16 @@ module _ (entries : List Entry) (boots : List BootRow) (checked : IsCheckedPool 
       let parts = and_parts (is_sound_body entries boots attr.body) (list_all (λ a. is_sound_body entries boots a.body) attributes) e in
       or_sound attr.body (code_of attributes) parts.0 (code_of_sound attributes parts.1)
 
-  abbrev HasSoundCode : RawMember → Type 0
-  HasSoundCode method = IfSome (code_of method.attributes) (λ code. is_sound_code entries boots code ≡ true)
-
-  have_sound_codes : (methods : List RawMember) → list_all are_sound methods ≡ true → All HasSoundCode methods
-  have_sound_codes [] e = All-nil HasSoundCode
+  have_sound_codes : (methods : List RawMember) → list_all are_sound methods ≡ true → All (HasSoundCode entries boots) methods
+  have_sound_codes [] e = All-nil (HasSoundCode entries boots)
   have_sound_codes (method ∷ methods) e =
       let parts = and_parts (are_sound method) (list_all are_sound methods) e in
-      All-cons HasSoundCode method methods (code_of_sound method.attributes parts.0) (have_sound_codes methods parts.1)
+      All-cons (HasSoundCode entries boots) method methods (code_of_sound method.attributes parts.0) (have_sound_codes methods parts.1)
 
 -- ---- the file
 
 abbrev HaveSoundCodes : Raw → Type 0
-HaveSoundCodes raw = All (λ method. IfSome (code_of method.attributes) (λ code. is_sound_code raw.pool.entries (boots_of raw.attributes) code ≡ true)) raw.methods
+HaveSoundCodes raw = All (HasSoundCode raw.pool.entries (boots_of raw.attributes)) raw.methods
 
 parts_sound : (bytes : List ℕ) → IsBytes bytes → length bytes < 2 ^ 32 → (layout : Layout) (raw : Raw) → IsCheckedPool layout.pool.entries → parts_of bytes layout ≡ Ok raw → HaveSoundCodes raw
 unfolding parts_of
