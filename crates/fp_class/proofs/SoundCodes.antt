@@ -41,6 +41,7 @@ use Rattle.fp_class.specs.Layout.{layout_of}
 use Rattle.fp_class.specs.Members.{code_count, counted_after, field_at, is_new, method_at, name_at, wanted_codes, words_at}
 use Rattle.fp_class.specs.MethodCode.{is_sound_code}
 use Rattle.fp_class.specs.Methods.{code_of, code_or}
+use Rattle.fp_class.specs.Naming.{HasSoundCode}
 use Rattle.fp_class.proofs.Facts.{counted_formed, layout_facts}
 
 -- ---- what an attribute holds, by a test of it
@@ -246,7 +247,7 @@ module _ (entries : List Entry) (boots : List BootRow) (checked : IsCheckedPool 
 -- ---- the file
 
 abbrev HaveSoundCodes : Raw → Type 0
-HaveSoundCodes raw = All (λ method. IfSome (code_of method.attributes) (λ code. is_sound_code raw.pool.entries (boots_of raw.attributes) code ≡ true)) raw.methods
+HaveSoundCodes raw = All (HasSoundCode raw.pool.entries (boots_of raw.attributes)) raw.methods
 
 parts_sound : (bytes : List ℕ) → IsBytes bytes → length bytes < 2 ^ 32 → (layout : Layout) (raw : Raw) → IsCheckedPool layout.pool.entries → parts_of bytes layout ≡ Ok raw → HaveSoundCodes raw
 unfolding parts_of

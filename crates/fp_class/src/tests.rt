@@ -245,7 +245,6 @@ fn other_files_are_refused_or_read(rt: HostRuntime) -> Result<(), Fail> {
 fn a_module_is_no_class(rt: HostRuntime) -> Result<(), Fail> {
     let raw = read_class(rt.alloc(), MODULE)?;
     let mut names = Names::new(rt.alloc());
-    assert!(rt; raw.methods.len() == 0);
     assert!(rt; to_class(rt.alloc(), &raw, &mut names)?.is_none());
     assert_eq!(rt; names.len(), 0);
     Ok(())
@@ -255,7 +254,6 @@ fn a_module_is_no_class(rt: HostRuntime) -> Result<(), Fail> {
 fn a_class_is_named(rt: HostRuntime) -> Result<(), Fail> {
     let raw = read_class(rt.alloc(), FILE)?;
     let mut names = Names::new(rt.alloc());
-    assert!(rt; raw.methods.len() == 0);
     let class = to_class(rt.alloc(), &raw, &mut names)?.ok_or("no class")?;
     assert_eq!(rt; (class.name, class.parent, class.flags), (0, Some(1), 0x21));
     let field = Field {
@@ -275,6 +273,21 @@ fn a_class_is_named(rt: HostRuntime) -> Result<(), Fail> {
         (2, b"x"),
         (3, b"I"),
     ] {
+        assert_eq!(rt; names.text(number), Some(name));
+    }
+    Ok(())
+}
+
+#[test]
+fn a_method_is_named(rt: HostRuntime) -> Result<(), Fail> {
+    let raw = read_class(rt.alloc(), METHOD)?;
+    let mut names = Names::new(rt.alloc());
+    let class = to_class(rt.alloc(), &raw, &mut names)?.ok_or("no class")?;
+    let method = class.methods.get(0).ok_or("no method")?;
+    assert_eq!(rt; (method.name, method.descr, method.flags), (2, 3, 9));
+    let code = method.code.as_ref().ok_or("no code")?;
+    assert_eq!(rt; (code.instrs.len(), code.rows.len()), (1, 0));
+    for (number, name) in [(2, b"m".as_slice()), (3, b"()V")] {
         assert_eq!(rt; names.text(number), Some(name));
     }
     Ok(())

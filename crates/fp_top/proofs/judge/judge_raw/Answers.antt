@@ -11,12 +11,12 @@ set_of-requires-clause-few c =
 
 pub returns-clause-set : goal.returns-clause-set
 returns-clause-set c =
-    judged c.class_of_file.new.names c.in-Ok.class c.args.raw.now c.set_of.result c.in-Ok.ensures.names c.class_of_file.ensures.few
+    judged c.class_of_file.new.names c.in-Ok.class c.args.raw.now c.set_of.result c.in-Ok.ensures.names c.in-Ok.ensures.few
     (read-is c.class_of_file.new.names c.in-Ok.class c.args.raw.now c.in-Ok.ensures.names c.in-Ok.ensures.class c.in-Ok.ensures.none)
     c.set_of.ensures.set c.set_of.ensures.sound
 
 pub returns-clause-refusal : goal.returns-clause-refusal
 returns-clause-refusal c =
-    refused c.class_of_file.new.names c.in-Ok.class c.args.raw.now c.set_of.result c.in-Ok.ensures.names c.class_of_file.ensures.few
+    refused c.class_of_file.new.names c.in-Ok.class c.args.raw.now c.set_of.result c.in-Ok.ensures.names c.in-Ok.ensures.few
     (read-is c.class_of_file.new.names c.in-Ok.class c.args.raw.now c.in-Ok.ensures.names c.in-Ok.ensures.class c.in-Ok.ensures.none)
     c.set_of.ensures.refusal
