@@ -1,6 +1,4 @@
 mod DecideLemmas
-mod LoadLemmas
-mod SetLemmas
 mod TopLemmas
 mod SystemLemmas
 mod WordLemmas

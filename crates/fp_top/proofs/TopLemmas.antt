@@ -27,8 +27,7 @@ no_read_fault dir listed before now refusal.Usage blames same is = cc
 no_read_fault None listed before now (refusal.Read path) blames same is = blames
 no_read_fault (Some dir) listed before now (refusal.Read path) (inl listing) same is = gained_none before now _ same listing.1
 no_read_fault (Some dir) listed before now (refusal.Read path) (inr reading) same is = gained_none before now _ same reading.2
-no_read_fault dir listed before now (refusal.Unbuilt path at) blames same is = cc
-no_read_fault dir listed before now (refusal.File path why) blames same is = cc
+no_read_fault dir listed before now (refusal.Files refused) blames same is = cc
 no_read_fault dir listed before now (refusal.Duplicate name) blames same is = cc
 no_read_fault dir listed before now (refusal.Cycle name) blames same is = cc
 no_read_fault dir listed before now (refusal.Selection item) blames same is = cc
@@ -39,8 +38,7 @@ no_read_fault dir listed before now refusal.Memory blames same is = cc
 pub only_memory : (o : Outcome) (dir : Option (List ℕ)) (listed : List (List ℕ)) (before now : List Call) (r : Refusal) → Says o r → BlamesIn dir listed before now r → outcome.status_of o ≡ status.Done → now ≡ before → (status_of r ≡ status.Done) ⊎ (status_of r ≡ status.Memory)
 only_memory o dir listed before now refusal.Usage says blames done same = let wrong : status.Usage ≡ status.Done = sym (ap outcome.status_of says) ∙ done in absurd cc
 only_memory o dir listed before now (refusal.Read path) says blames done same = absurd (no_read_fault dir listed before now (refusal.Read path) blames same refl)
-only_memory o dir listed before now (refusal.Unbuilt path at) says blames done same = let wrong : status.Refused ≡ status.Done = sym (ap outcome.status_of says) ∙ done in absurd cc
-only_memory o dir listed before now (refusal.File path why) says blames done same = let wrong : status.Refused ≡ status.Done = sym (ap outcome.status_of says) ∙ done in absurd cc
+only_memory o dir listed before now (refusal.Files refused) says blames done same = let wrong : status.Refused ≡ status.Done = sym (ap outcome.status_of says) ∙ done in absurd cc
 only_memory o dir listed before now (refusal.Duplicate name) says blames done same = let wrong : status.Refused ≡ status.Done = sym (ap outcome.status_of says) ∙ done in absurd cc
 only_memory o dir listed before now (refusal.Cycle name) says blames done same = let wrong : status.Refused ≡ status.Done = sym (ap outcome.status_of says) ∙ done in absurd cc
 only_memory o dir listed before now (refusal.Selection item) says blames done same = let wrong : status.Selection ≡ status.Done = sym (ap outcome.status_of says) ∙ done in absurd cc
@@ -51,8 +49,7 @@ only_memory o dir listed before now refusal.Memory says blames done same = inr r
 pub IsText-refusal : (tells : Bool) (words : List (List ℕ)) (files : List File) (r : Refusal) → (IsTrue tells → Says (outcome.outcome words files) r) → IsText tells words files (status_of r) (text_of r)
 IsText-refusal tells words files refusal.Usage says = refl
 IsText-refusal tells words files (refusal.Read path) says = (string_bytes path, refl)
-IsText-refusal tells words files (refusal.Unbuilt path at) says = λ t. sym (ap outcome.text_of (says t))
-IsText-refusal tells words files (refusal.File path why) says = λ t. sym (ap outcome.text_of (says t))
+IsText-refusal tells words files (refusal.Files refused) says = λ t. sym (ap outcome.text_of (says t))
 IsText-refusal tells words files (refusal.Duplicate name) says = λ t. sym (ap outcome.text_of (says t))
 IsText-refusal tells words files (refusal.Cycle name) says = λ t. sym (ap outcome.text_of (says t))
 IsText-refusal tells words files (refusal.Selection item) says = λ t. sym (ap outcome.text_of (says t))
@@ -63,8 +60,7 @@ IsText-refusal tells words files refusal.Memory says = refl
 pub usage_of : (dir : Option (List ℕ)) (r : Refusal) → IsWorded dir r → IsNone dir → status_of r ≡ status.Usage
 usage_of None refusal.Usage worded none = refl
 usage_of None (refusal.Read path) worded none = absurd worded
-usage_of None (refusal.Unbuilt path at) worded none = absurd worded
-usage_of None (refusal.File path why) worded none = absurd worded
+usage_of None (refusal.Files refused) worded none = absurd worded
 usage_of None (refusal.Duplicate name) worded none = absurd worded
 usage_of None (refusal.Cycle name) worded none = absurd worded
 usage_of None (refusal.Selection item) worded none = absurd worded
@@ -78,8 +74,7 @@ pub fault_of : (words : List (List ℕ)) (dir : Option (List ℕ)) (listed : Lis
 fault_of words dir listed before now err err' refusal.Usage names blames is part = absurd cc
 fault_of words None listed before now err err' (refusal.Read path) names blames is part = absurd blames
 fault_of words (Some dir) listed before now err err' (refusal.Read path) names blames is part = record { dir = dir; path = string_bytes path; worded = names; blamed = blames; named = part }
-fault_of words dir listed before now err err' (refusal.Unbuilt path at) names blames is part = absurd cc
-fault_of words dir listed before now err err' (refusal.File path why) names blames is part = absurd cc
+fault_of words dir listed before now err err' (refusal.Files refused) names blames is part = absurd cc
 fault_of words dir listed before now err err' (refusal.Duplicate name) names blames is part = absurd cc
 fault_of words dir listed before now err err' (refusal.Cycle name) names blames is part = absurd cc
 fault_of words dir listed before now err err' (refusal.Selection item) names blames is part = absurd cc

@@ -1,6 +1,8 @@
 -- What words that ask for a run ask for.
-use Rattle.std.proofs.Common.{◌≡◌, ℕ, ◌≤◌, nat_lt, Bool, true, false, List, [], ◌∷◌, length, cond, Option, Some, None, refl, sym, ap, subst, ◌∙◌}
-use Rattle.std.specs.Prelude.{option_map, option_and_then}
+use Rattle.std.proofs.Common.{◌≡◌, ℕ, ◌≤◌, nat_lt, Bool, true, false, List, [], ◌∷◌, length, cond, Option, Some, None, refl, sym, ap, subst, ◌∙◌, arith}
+use Rattle.std.specs.Prelude.{String, option_map, option_and_then}
+use Rattle.std.specs.declared.alloc.Global.{Global}
+use Rattle.fp_base.specs.Files.{texts}
 use Rattle.std.specs.List.{list_all}
 use Rattle.std.proofs.lemmas.Option.{none-some, same_Some}
 use Rattle.std.proofs.lemmas.Bool.{cond-false, le-ltb}
@@ -8,6 +10,10 @@ use Rattle.fp_words.specs.Words.{Given, RunAsked, asked, is_plain, none_given, o
 use Rattle.fp_words.specs.Lists.{list_items}
 use Rattle.fp_top.specs.Words.{asked_of}
 use Rattle.fp_words.specs.Words.Asked.{Run, Generate}
+
+pub length-texts : (strings : List (String Global)) → length (texts strings) ≡ length strings
+length-texts [] = refl
+length-texts (s ∷ strings) = omega (arith, length-texts strings)
 
 and_then_holds : {X Y : Type 0} (P : Y → Type 0) (f : X → Option Y) (o : Option X) → ((x : X) (y : Y) → f x ≡ Some y → P y) → (y : Y) → option_and_then f o ≡ Some y → P y
 and_then_holds P f None holds y is = absurd (none-some y is)

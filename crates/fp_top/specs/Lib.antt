@@ -2,6 +2,5 @@ pub mod FaultTexts
 pub mod Outcome
 pub mod Refusal
 pub mod Runs
-pub mod SetRefusal
 pub mod Top
 pub mod Words

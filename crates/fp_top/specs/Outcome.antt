@@ -1,19 +1,16 @@
 -- What a run answers, by its words and by the files that the directory tells.
-use Rattle.std.specs.Prelude.{ℕ, nat_lt, List, [], ◌∷◌, ◌++◌, length, codes, unwrap_or, Option, Some, None, Result, Ok, Err, if◌then◌else◌}
+use Rattle.std.specs.Prelude.{ℕ, List, [], ◌++◌, codes, Option, Some, None, Result, Ok, Err}
 use Rattle.std.specs.List.{flat_map}
 use Rattle.std.specs.Fmt.{decimal}
-use Rattle.fp_base.specs.Files.{File, bytes_at, class_paths}
-use Rattle.fp_base.specs.Names.{with_names}
+use Rattle.fp_base.specs.Files.{File}
 use Rattle.fp_model.specs.declared.fault.FileFault.{FileFault}
-use Rattle.fp_model.specs.declared.raw.Raw.{Raw}
 use Rattle.fp_model.specs.declared.limit.LimitName.{LimitName}
-use Rattle.fp_model.specs.declared.limit.LimitName.TheVariants.{Names, Places}
+use Rattle.fp_model.specs.declared.limit.LimitName.TheVariants.{Places}
 use Rattle.fp_model.specs.Limits.{limit_name_text}
-use Rattle.fp_class.specs.ClassFile.{class_of, is_module}
-use Rattle.fp_class.specs.Classes.{class_in}
-use Rattle.fp_class.specs.Naming.{taken_names}
-use Rattle.fp_model.specs.ClassSet.{SetView, SetRefusal, refusal_of}
+use Rattle.fp_model.specs.ClassSet.{SetView}
 use Rattle.fp_model.specs.ClassSet.SetRefusal.{Duplicate, SuperCycle}
+use Rattle.fp_load.specs.Load.{LoadRefusal, loaded_of}
+use Rattle.fp_load.specs.Load.LoadRefusal.{Passed, Faulty, Unsound}
 use Rattle.fp_eqs.specs.Solution.{solution}
 use Rattle.fp_eqs.specs.Demand.{demand}
 use Rattle.fp_system.specs.Java.{SystemRefusal, java_cells, java_equations, shown_from, system_refusal}
@@ -36,13 +33,13 @@ pub data Outcome : Type 0 where
 abbrev pub usage_text : List ℕ
 usage_text = codes "usage: fpcf --analyses LIST --show LIST --workers N [--assume FILE] [--all] [--cycles] DIR [ROOT]...\nusage: fpcf generate --seed N --classes N --workers N\n"
 
--- what is not read yet at a path, and where
-abbrev pub unbuilt_text : List ℕ → ℕ → List ℕ
-unbuilt_text path at = codes "refused: " ++ (path ++ (codes ": unbuilt at " ++ (decimal at ++ codes "\n")))
-
 -- a file at a path that is no class file, and its first fault
 abbrev pub fault_line : List ℕ → FileFault → List ℕ
 fault_line path fault = codes "refused: " ++ (path ++ (codes ": " ++ (fault_text fault ++ codes "\n")))
+
+-- a line for each of these
+abbrev pub fault_lines : List (List ℕ × FileFault) → List ℕ
+fault_lines faults = flat_map (λ f. fault_line f.0 f.1) faults
 
 -- two classes of one escaped name
 abbrev pub duplicate_text : List ℕ → List ℕ
@@ -88,44 +85,16 @@ outcome_by set asked None = Report (java_report set asked)
 abbrev pub outcome_of_sound : SetView → RunAsked → Outcome
 outcome_of_sound set asked = outcome_by set asked (system_refusal set asked.analyses asked.show)
 
--- the outcome of a set of classes, by why it isn't sound
-abbrev pub outcome_of_set : SetView → RunAsked → Option SetRefusal → Outcome
-outcome_of_set set asked (Some (Duplicate name)) = Refuse status.Refused (duplicate_text name)
-outcome_of_set set asked (Some (SuperCycle name)) = Refuse status.Refused (cycle_text name)
-outcome_of_set set asked None = outcome_of_sound set asked
-
--- the set of the class of a file, over the table of its texts; a module has no class
-abbrev pub set_of : Raw → SetView
-set_of raw =
-    let names = with_names [] (taken_names raw) in
-    record { classes = if is_module raw.flags then [] else class_in names raw ∷ []; names = names }
-
--- how many names there may be
-abbrev pub most_names : ℕ
-most_names = 16777216
-
--- the outcome of a class file
-abbrev pub outcome_of_raw : RunAsked → Raw → Outcome
-outcome_of_raw asked raw =
-    if nat_lt most_names (length (with_names [] (taken_names raw))) then Refuse status.Limit (limit_text Names most_names)
-    else outcome_of_set (set_of raw) asked (refusal_of (set_of raw))
-
--- the outcome of a class file, or of the first fault
-abbrev pub outcome_of_read : RunAsked → List ℕ → Result Raw FileFault → Outcome
-outcome_of_read asked path (Ok raw) = outcome_of_raw asked raw
-outcome_of_read asked path (Err fault) = Refuse status.Refused (fault_line path fault)
-
--- the outcome of a file's bytes
-abbrev pub outcome_of_bytes : RunAsked → List ℕ → List ℕ → Outcome
-outcome_of_bytes asked path bytes = if nat_lt 4194304 (length bytes) then Refuse status.Refused (unbuilt_text path 4194304) else outcome_of_read asked path (class_of bytes)
-
--- the outcome of the class files below a directory: it is read so far where there is one
-abbrev pub outcome_of_paths : RunAsked → List File → List ℕ → List (List ℕ) → Outcome
-outcome_of_paths asked files dir (path ∷ []) = outcome_of_bytes asked path (unwrap_or (bytes_at files path) [])
-outcome_of_paths asked files dir paths = Refuse status.Refused (unbuilt_text dir (length paths))
+-- the outcome of what was loaded, or of why nothing was
+abbrev pub outcome_of_load : RunAsked → Result SetView LoadRefusal → Outcome
+outcome_of_load asked (Ok set) = outcome_of_sound set asked
+outcome_of_load asked (Err (Passed limit most)) = Refuse status.Limit (limit_text limit most)
+outcome_of_load asked (Err (Faulty faults)) = Refuse status.Refused (fault_lines faults)
+outcome_of_load asked (Err (Unsound (Duplicate name))) = Refuse status.Refused (duplicate_text name)
+outcome_of_load asked (Err (Unsound (SuperCycle name))) = Refuse status.Refused (cycle_text name)
 
 abbrev pub outcome_of_run : List File → Option RunAsked → Outcome
-outcome_of_run files (Some asked) = outcome_of_paths asked files asked.dir (class_paths files asked.dir)
+outcome_of_run files (Some asked) = outcome_of_load asked (loaded_of files asked.dir)
 outcome_of_run files None = Refuse status.Usage usage_text
 
 -- the outcome of words over told files

@@ -6,7 +6,7 @@ use Rattle.fp_base.specs.Faults.{AppendsPart}
 use Rattle.fp_top.specs.declared.status.Status.{Status}
 use Rattle.fp_top.specs.declared.status.Status.TheVariants as status
 use Rattle.fp_top.specs.Outcome.{usage_text, read_text, write_text, memory_text, refusal_text}
-use Rattle.fp_top.specs.Refusal.{IsBlamed}
+use Rattle.fp_load.specs.Causes.{IsBlamed}
 use Rattle.fp_top.specs.Words.{directory_of}
 
 -- a status goes with a verdict: a read fault and want of memory with each, a write fault with Done, any other with itself

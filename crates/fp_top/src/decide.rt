@@ -1,19 +1,24 @@
-ghost use Rattle.std.specs.Prelude.{◌≡◌, IsTrue, IsSome, IfOk, IfErr, MatchResult};
-ghost use Rattle.fp_base.specs.Files.{class_paths, texts};
+ghost use Rattle.std.specs.Prelude.{◌≡◌, ℕ, List, Result, IsTrue, IsSome, IfOk, IfErr, MatchResult};
+ghost use Rattle.fp_base.specs.Calls.{Call};
+ghost use Rattle.fp_base.specs.Files.{texts};
+ghost use Rattle.fp_load.specs.Causes as causes;
+ghost use Rattle.fp_load.specs.Causes.{Keeps};
+ghost use Rattle.fp_load.specs.Faults.{Tells};
+ghost use Rattle.fp_load.specs.Load.{LoadRefusal};
+ghost use Rattle.fp_model.specs.ClassSet.{SetView};
 ghost use Rattle.fp_words.specs.Words.{RunAsked};
-ghost use Rattle.fp_top.specs.Outcome.{outcome, outcome_of_paths, outcome_of_sound};
+ghost use Rattle.fp_top.specs.Outcome.{outcome, outcome_of_load};
 ghost use Rattle.fp_top.specs.Outcome.Outcome.{Report};
 ghost use Rattle.fp_top.specs.Words as spec;
-ghost use Rattle.fp_top.specs.Refusal.{Says, Blames, BlamesWords, IsWorded, IsNoUsage, Keeps};
+ghost use Rattle.fp_top.specs.Refusal.{Says, Blames, BlamesWords, IsWorded, IsNoUsage};
 ghost use Rattle.fp_top.specs.Runs.{lines_of, IsReady};
 
-use crate::judge::judge;
-use crate::load::{find_file, read_file};
 use crate::refusal::Refusal;
 use crate::solve::{Run, solve};
 use crate::words::job_of;
 use fp_base::ClassDir;
-use fp_model::ClassSet;
+use fp_load::{LoadFault, load};
+use fp_model::SetFault;
 use std::alloc::Global;
 
 /// The run that the words ask for, solved.
@@ -29,28 +34,24 @@ pub fn decide<D: ClassDir>(alloc: Global, words: &[String], dir: &mut D) -> Resu
         Ok(job) => job,
         Err(refusal) => return Err(refusal),
     };
-    let set = match read_set(alloc, dir, job.dir.as_str()) {
-        Ok(set) => set,
-        Err(refusal) => return Err(refusal),
-    };
-    solve(alloc, set, job)
+    match load(alloc, dir, &job) {
+        Ok(loaded) => solve(alloc, loaded, job),
+        Err(fault) => Err(refusal_of_load(fault)),
+    }
 }
 
-/// The set of the one class file below a directory.
-fn read_set<D: ClassDir>(alloc: Global, dir: &mut D, path: &str) -> Result<ClassSet, Refusal>
-    ensures keeps { Keeps (D.tells dir.old) (D.files dir.old) (D.failed dir.old) (D.tells dir.new) (D.files dir.new) (D.failed dir.new) }
-    ensures set { IfOk result (λ set. IsTrue (D.tells dir.old) → (asked : RunAsked) → outcome_of_paths asked (D.files dir.old) path.now (class_paths (D.files dir.old) path.now) ≡ outcome_of_sound set asked) }
-    ensures refusal { IfErr result (λ refusal. IsTrue (D.tells dir.old) → (asked : RunAsked) → Says (outcome_of_paths asked (D.files dir.old) path.now (class_paths (D.files dir.old) path.now)) refusal) }
-    ensures worded { IfErr result IsNoUsage }
-    ensures blames { IfErr result (λ refusal. Blames path.now (D.listed dir.new) (D.failed dir.old) (D.failed dir.new) refusal) }
+/// Why nothing was loaded, as a refusal.
+fn refusal_of_load(fault: LoadFault) -> Refusal
+    ensures says { (asked : RunAsked) (loaded : Result SetView LoadRefusal) → Tells loaded fault → Says (outcome_of_load asked loaded) result }
+    ensures worded { IsNoUsage result }
+    ensures blames { (dir : List ℕ) (listed : List (List ℕ)) (before now : List Call) → causes.Blames dir listed before now fault → Blames dir listed before now result }
 {
-    let file = match find_file(alloc, dir, path) {
-        Ok(file) => file,
-        Err(refusal) => return Err(refusal),
-    };
-    let bytes = match read_file(alloc, dir, file.as_str()) {
-        Ok(bytes) => bytes,
-        Err(refusal) => return Err(refusal),
-    };
-    judge(alloc, file.as_str(), &bytes)
+    match fault {
+        LoadFault::Read(path) => Refusal::Read(path),
+        LoadFault::Limit(name, most) => Refusal::Limit(name, most),
+        LoadFault::Refused(files) => Refusal::Files(files),
+        LoadFault::Set(SetFault::Duplicate(name)) => Refusal::Duplicate(name),
+        LoadFault::Set(SetFault::SuperCycle(name)) => Refusal::Cycle(name),
+        LoadFault::Set(SetFault::Memory) | LoadFault::Memory => Refusal::Memory,
+    }
 }

@@ -4,8 +4,6 @@
 mod analyse;
 mod decide;
 mod fault_text;
-mod judge;
-mod load;
 mod refusal;
 mod report;
 mod solve;

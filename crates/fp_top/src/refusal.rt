@@ -2,7 +2,9 @@ ghost use Rattle.std.specs.Prelude.{◌≡◌, IfOk, string_bytes};
 ghost use Rattle.fp_top.specs.Refusal as spec;
 
 use crate::status::Status;
-use fp_model::{FileFault, LimitName};
+use fp_load::FileRefusal;
+use fp_model::LimitName;
+use sqlite_items::Items;
 use std::alloc::{AllocError, Global};
 
 /// Why there is no report.
@@ -12,10 +14,8 @@ pub enum Refusal {
     Usage,
     /// The directory, or a file, could not be read.
     Read(String),
-    /// What is at the path is not read yet, and where: an offset, or how many files there are.
-    Unbuilt { path: String, at: u64 },
-    /// The file at the path is no class file.
-    File { path: String, fault: FileFault },
+    /// Files are refused, by their paths and in their order.
+    Files(Items<(String, FileRefusal)>),
     /// Two classes have this escaped name.
     Duplicate(String),
     /// The class of this escaped name lies on a cycle of superclasses.
@@ -35,10 +35,7 @@ pub fn status_of(refusal: &Refusal) -> Status
     match refusal {
         Refusal::Usage => Status::Usage,
         Refusal::Read(_) => Status::ReadFault,
-        Refusal::Unbuilt { .. }
-        | Refusal::File { .. }
-        | Refusal::Duplicate(_)
-        | Refusal::Cycle(_) => Status::Refused,
+        Refusal::Files(_) | Refusal::Duplicate(_) | Refusal::Cycle(_) => Status::Refused,
         Refusal::Selection(_) => Status::Selection,
         Refusal::Limit(..) => Status::Limit,
         Refusal::Memory => Status::Memory,

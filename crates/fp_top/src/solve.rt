@@ -7,13 +7,12 @@ ghost use Rattle.fp_words.specs.Asked.{run_of_job};
 ghost use Rattle.fp_words.specs.Words.{RunAsked};
 ghost use Rattle.fp_top.specs.Outcome.{outcome_by, outcome_of_sound};
 ghost use Rattle.fp_top.specs.Outcome.Outcome.{Report};
-ghost use Rattle.fp_top.specs.Refusal.{Says, IsOfFile};
+ghost use Rattle.fp_top.specs.Refusal.{Says, IsOwn};
 ghost use Rattle.fp_top.specs.Runs.{lines_of, IsReady};
 
 use crate::refusal::Refusal;
 use fp_eqs::{Solved, rounds};
-use fp_facts::{Assume, Loaded};
-use fp_model::ClassSet;
+use fp_facts::Loaded;
 use fp_system::{JavaSystem, SystemFault};
 use fp_words::Job;
 use std::alloc::Global;
@@ -28,15 +27,13 @@ pub struct Run {
 }
 
 /// Builds the system of a set and solves it.
-pub fn solve(alloc: Global, set: ClassSet, job: Job) -> Result<Run, Refusal>
+pub fn solve(alloc: Global, loaded: Loaded, job: Job) -> Result<Run, Refusal>
     requires { (job.all ≡ false) × (job.cycles ≡ false) }
-    ensures report { IfOk result (λ run. outcome_of_sound set (run_of_job job) ≡ Report (lines_of run)) }
+    ensures report { IfOk result (λ run. outcome_of_sound loaded.set (run_of_job job) ≡ Report (lines_of run)) }
     ensures ready { IfOk result IsReady }
-    ensures refusal { IfErr result (λ refusal. Says (outcome_of_sound set (run_of_job job)) refusal) }
-    ensures own { IfErr result IsOfFile }
+    ensures refusal { IfErr result (λ refusal. Says (outcome_of_sound loaded.set (run_of_job job)) refusal) }
+    ensures own { IfErr result IsOwn }
 {
-    let assume = Assume::none(alloc);
-    let loaded = Loaded { set, assume };
     let system = match JavaSystem::build(alloc, &loaded, &job) {
         Ok(system) => system,
         Err(fault) => return Err(refusal_of_system(fault)),
@@ -55,7 +52,7 @@ pub fn solve(alloc: Global, set: ClassSet, job: Job) -> Result<Run, Refusal>
 /// Why there is no system, as a refusal.
 fn refusal_of_system(fault: SystemFault) -> Refusal
     ensures says { (set : SetView) (asked : RunAsked) (why : Option SystemRefusal) → TellsSystemRefusal why fault → Says (outcome_by set asked why) result }
-    ensures own { IsOfFile result }
+    ensures own { IsOwn result }
 {
     match fault {
         SystemFault::Analysis(name) => Refusal::Selection(name),

@@ -1,11 +1,13 @@
-ghost use Rattle.std.specs.Prelude.{◌≡◌, IfOk, string_bytes};
+ghost use Rattle.std.specs.Prelude.{◌≡◌, map, IfOk, string_bytes};
 ghost use Rattle.fp_base.specs.Faults.{AppendsPart};
+ghost use Rattle.fp_load.specs.Faults.{refusal_told};
 ghost use Rattle.fp_top.specs.Outcome as outcome;
 ghost use Rattle.fp_top.specs.Refusal as spec;
 
 use crate::fault_text::fault_text;
 use crate::refusal::Refusal;
 use fp_base::Sink;
+use fp_load::FileRefusal;
 use fp_model::{FileFault, LimitName};
 use std::alloc::{AllocError, Global};
 
@@ -29,8 +31,7 @@ fn text_of(alloc: Global, refusal: &Refusal) -> Result<String, AllocError>
     match refusal {
         Refusal::Usage => String::from_str(alloc, USAGE),
         Refusal::Read(path) => format!(in alloc; "read fault: {path}\n"),
-        Refusal::Unbuilt { path, at } => { format!(in alloc; "refused: {path}: unbuilt at {at}\n") }
-        Refusal::File { path, fault } => fault_line(alloc, path.as_str(), *fault),
+        Refusal::Files(refused) => fault_lines(alloc, refused.as_slice()),
         Refusal::Duplicate(name) => format!(in alloc; "refused: duplicate {name}\n"),
         Refusal::Cycle(name) => format!(in alloc; "refused: cycle {name}\n"),
         Refusal::Selection(item) => format!(in alloc; "selection: {item}\n"),
@@ -45,6 +46,22 @@ fn limit_text(alloc: Global, name: LimitName, most: u64) -> Result<String, Alloc
 {
     let name = name.text();
     format!(in alloc; "limit: {name} {most}\n")
+}
+
+/// A line for each file that is refused.
+fn fault_lines(
+    alloc: Global,
+    refused: &[(String, FileRefusal)],
+) -> Result<String, AllocError>
+    ensures { IfOk result (λ text. string_bytes text ≡ outcome.fault_lines (map refusal_told refused.now)) }
+{
+    let mut lines = String::new(alloc);
+    for (path, refusal) in refused {
+        let FileRefusal::File(fault) = refusal;
+        let line = fault_line(alloc, path.as_str(), *fault)?;
+        lines.push_str(line.as_str())?;
+    }
+    Ok(lines)
 }
 
 /// What a file that is no class file writes to err.

@@ -4,8 +4,7 @@ use Rattle.fp_words.specs.declared.fault.WordsFault.{WordsFault}
 use Rattle.fp_words.specs.declared.fault.WordsFault.TheVariants as fault
 use Rattle.fp_words.specs.declared.job.Order.{Order}
 use Rattle.fp_words.specs.Asked.{asked_of, run_of_job}
-use Rattle.fp_top.proofs.WordLemmas.{asked-none, asked-run, never, order-of-none, short-run}
-use Rattle.fp_top.proofs.LoadLemmas.{length-texts}
+use Rattle.fp_top.proofs.WordLemmas.{asked-none, asked-run, length-texts, never, order-of-none, short-run}
 use Rattle.fp_top.proofs.words.job_of.Goals as goal
 
 no-usage : (f : WordsFault) (read : Result Order WordsFault) → f ≡ fault.Memory → read ≡ Err f → read ≡ Err fault.Usage → ⊥

@@ -1,0 +1,8 @@
+//! Reads the class files below a directory into a set of classes.
+#![tactic(auto)]
+
+mod directory;
+mod fault;
+
+pub use directory::load;
+pub use fault::{FileRefusal, LoadFault};
