@@ -7,6 +7,7 @@ use crate::solve::solve;
 use crate::words::job_of;
 use crate::{Status, analyse_one};
 use fp_base::{MemDir, MemSink, Names, has_distinct_calls, has_distinct_paths};
+use fp_facts::{Assume, Loaded};
 use fp_model::{Class, ClassSet, FileFault};
 use sqlite_items::Items;
 use std::alloc::{AllocError, Global};
@@ -134,6 +135,18 @@ fn changed(alloc: Global, bytes: &[u8], at: usize, byte: u8) -> Result<Vec<u8>, 
         copy[at] = byte;
     }
     Ok(copy)
+}
+
+/// Files of these paths and bytes.
+fn files_with(
+    alloc: Global,
+    contents: &[(&str, &[u8])],
+) -> Result<Vec<(String, Vec<u8>)>, AllocError> {
+    let mut files = Vec::new(alloc);
+    for (path, bytes) in contents {
+        files.push(file(alloc, path, bytes)?)?;
+    }
+    Ok(files)
 }
 
 fn run(
@@ -348,30 +361,89 @@ fn tells_each_fault_of_a_file_in_its_words(rt: HostRuntime) -> Result<(), Fail> 
     Ok(())
 }
 
+/// A class of this name that extends another, both of one letter.
+fn extending(name: u8, parent: u8) -> [u8; 38] {
+    [
+        0xCA, 0xFE, 0xBA, 0xBE, 0, 0, 0, 0x34, 0, 5, 1, 0, 1, name, 7, 0, 1, 1, 0, 1, parent, 7, 0,
+        3, 0, 0x21, 0, 2, 0, 4, 0, 0, 0, 0, 0, 0, 0, 0,
+    ]
+}
+
 #[test]
-fn refuses_another_number_of_files_than_one_and_a_long_file(rt: HostRuntime) -> Result<(), Fail> {
+fn reads_the_class_files_of_a_directory(rt: HostRuntime) -> Result<(), Fail> {
     let alloc = rt.alloc();
+    let x = extending(b'X', b'Y');
+    let y = extending(b'Y', b'X');
     let long = vec![in alloc; 0u8; 4_194_305]?;
-    let cases: [(&[&str], &[u8], &str); 3] = [
-        (&[], &A_FINAL, "refused: d: unbuilt at 0\n"),
+    let mut with_byte = Vec::from_slice(alloc, &A_FINAL)?;
+    with_byte.push(0)?;
+    let cases: [(&[(&str, &[u8])], Status, &str, &str); 7] = [
+        (&[], Status::Done, "cells 0\n", ""),
         (
-            &["d/A.class", "d/e/B.class"],
-            &A_FINAL,
-            "refused: d: unbuilt at 2\n",
+            &[("d/H.class", &H), ("d/A.class", &A_FINAL), ("e/A.class", &A_FINAL)],
+            Status::Done,
+            "declared A final\ndeclared H final\ncells 2\n",
+            "",
         ),
         (
-            &["d/A.class"],
-            long.as_slice(),
-            "refused: d/A.class: unbuilt at 4194304\n",
+            &[("d/X.class", &x), ("d/A.class", &A_FINAL)],
+            Status::Done,
+            "declared A final\ndeclared X open\ncells 2\n",
+            "",
+        ),
+        (
+            &[("d/A.class", &A_FINAL), ("d/e/B.class", &A_FINAL)],
+            Status::Refused,
+            "",
+            "refused: duplicate A\n",
+        ),
+        (
+            &[("d/Y.class", &y), ("d/X.class", &x)],
+            Status::Refused,
+            "",
+            "refused: cycle X\n",
+        ),
+        (
+            &[("d/C.class", &x), ("d/B.class", &A_FINAL[..4]), ("d/A.class", with_byte.as_slice()), ("d/D.class", &x)],
+            Status::Refused,
+            "",
+            "refused: d/A.class: trailing at 69\nrefused: d/B.class: truncated at 4\n",
+        ),
+        (
+            &[("d/B.class", long.as_slice()), ("d/A.class", &A_FINAL[..4])],
+            Status::Limit,
+            "",
+            "limit: file-bytes 4194304\n",
         ),
     ];
-    for (paths, bytes, err) in cases {
-        let files = files(alloc, paths, bytes)?;
+    for (contents, status, out, err) in cases {
+        let files = files_with(alloc, contents)?;
         let ending = run(&rt, alloc, &WORDS, files, Vec::new(alloc), Vec::new(alloc))?;
-        assert_eq!(rt; ending.status, Status::Refused);
+        assert_eq!(rt; ending.status, status);
+        assert_eq!(rt; ending.out.as_slice(), out.as_bytes());
         assert_eq!(rt; ending.err.as_slice(), err.as_bytes());
-        assert!(rt; ending.out.is_empty());
     }
+    Ok(())
+}
+
+/// So many empty class files.
+fn empty_files(alloc: Global, count: u32) -> Result<Vec<(String, Vec<u8>)>, AllocError> {
+    let mut files = Vec::new(alloc);
+    for number in 0..count {
+        files.push((format!(in alloc; "d/{number}.class")?, Vec::new(alloc)))?;
+    }
+    Ok(files)
+}
+
+#[test]
+fn refuses_too_many_files_before_one_is_read(rt: HostRuntime) -> Result<(), Fail> {
+    let alloc = rt.alloc();
+    let files = empty_files(alloc, 20_001)?;
+    let first_read = Vec::from_slice(alloc, &[1])?;
+    let ending = run(&rt, alloc, &WORDS, files, first_read, Vec::new(alloc))?;
+    assert_eq!(rt; ending.status, Status::Limit);
+    assert_eq!(rt; ending.err.as_slice(), b"limit: files 20000\n".as_slice());
+    assert!(rt; ending.out.is_empty());
     Ok(())
 }
 
@@ -500,7 +572,9 @@ fn the_lines_of_classes_stand_in_the_order_of_their_bytes(rt: HostRuntime) -> Re
     let Ok(job) = job_of(alloc, &words) else {
         return Err("no job".into());
     };
-    let Ok(run) = solve(alloc, three_classes(alloc)?, job) else {
+    let set = three_classes(alloc)?;
+    let assume = Assume::none(alloc);
+    let Ok(run) = solve(alloc, Loaded { set, assume }, job) else {
         return Err("no run".into());
     };
     let mut out = MemSink::new(alloc, Vec::new(alloc));
@@ -539,21 +613,23 @@ fn a_report_that_fails_is_a_first_part(rt: HostRuntime) -> Result<(), Fail> {
 #[test]
 fn tells_which_call_of_the_outside_failed(rt: HostRuntime) -> Result<(), Fail> {
     let alloc = rt.alloc();
-    let cases: [(u32, &[(u32, u32)], Status, &str, &str); 4] = [
+    let x = extending(b'X', b'Z');
+    let y = extending(b'Y', b'X');
+    let cases: [(u32, &[(u32, u32)], Status, &str, &str); 5] = [
         (0, &[], Status::ReadFault, "", "read fault: d\n"),
         (1, &[], Status::ReadFault, "", "read fault: d/A.class\n"),
+        (3, &[], Status::ReadFault, "", "read fault: d/C.class\n"),
         (
             9,
-            &[(1, 3)],
+            &[(3, 3)],
             Status::WriteFault,
-            "declared A final\ncel",
+            "declared A final\ndeclared X open\ndeclared Y open\ncel",
             "write fault\n",
         ),
         (9, &[(0, 0)], Status::WriteFault, "", "write fault\n"),
     ];
     for (failing_call, failing_puts, status, out, err) in cases {
-        let mut files = Vec::new(alloc);
-        files.push(file(alloc, "d/A.class", &A_FINAL)?)?;
+        let files = files_with(alloc, &[("d/C.class", &y), ("d/B.class", &x), ("d/A.class", &A_FINAL)])?;
         let calls = Vec::from_slice(alloc, &[failing_call])?;
         let puts = Vec::from_slice(alloc, failing_puts)?;
         let ending = run(&rt, alloc, &WORDS, files, calls, puts)?;
