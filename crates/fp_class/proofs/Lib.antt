@@ -8,6 +8,7 @@ pub mod Marks
 pub mod MemberSpelled
 pub mod Memos
 pub mod MemberTexts
+pub mod LongerClasses
 mod LongerInstrs
 mod NamedClass
 mod NamedCode
