@@ -3,6 +3,7 @@
 
 mod directory;
 mod fault;
+mod paths;
 
 pub use directory::load;
 pub use fault::{FileRefusal, LoadFault};
