@@ -4,6 +4,7 @@
 mod directory;
 mod fault;
 mod paths;
+mod reading;
 
 pub use directory::load;
 pub use fault::{FileRefusal, LoadFault};
