@@ -1,5 +1,5 @@
 -- The class of a file, over a longer table of names.
-use Rattle.std.proofs.Common.{◌≡◌, ℕ, ◌<◌, List, [], ◌∷◌, Option, Some, None, length, get_or, map, sym, ap, ap₂, ◌∙◌, subst, refl}
+use Rattle.std.proofs.Common.{◌≡◌, ℕ, ◌<◌, List, [], ◌∷◌, ◌++◌, Option, Some, None, length, get_or, map, sym, ap, ap₂, ◌∙◌, subst, refl}
 use Rattle.std.specs.Prelude.{slice_get, unwrap_or, option_and_then, IfSome, All}
 use Rattle.std.specs.List.{AllZip}
 use Rattle.std.proofs.lemmas.List.Elements.{All-head, All-tail, All-weaker}
@@ -22,7 +22,7 @@ use Rattle.fp_class.specs.MethodCode.{IsGuardOf}
 use Rattle.fp_class.specs.Methods.{code_of}
 use Rattle.fp_class.proofs.LongerInstrs.{descr_kept, AreInstrsFrom-kept}
 use Rattle.fp_class.proofs.NamedCode.{IsGuardOf-kept}
-use Rattle.fp_class.proofs.NamedParts.{AllZip-to}
+use Rattle.fp_class.proofs.NamedParts.{AllZip-more, AllZip-to}
 
 module _ (names longer : List (List ℕ)) (kept : Keeps names longer) where
   -- ---- numbers
@@ -134,3 +134,12 @@ module _ (names longer : List (List ℕ)) (kept : Keeps names longer) where
     fields = fields_of raw.pool.entries c.fields raw.fields is.over.fields is.fields;
     methods = methods_of raw.pool.entries (boots_of raw.attributes) c.methods raw.methods is.over.methods is.methods;
   }
+
+  -- ---- the classes of files
+
+  pub classes_kept : (classes : List Class) (raws : List Raw) → AllZip (IsClassOf names) classes raws → AllZip (IsClassOf longer) classes raws
+  classes_kept classes raws all = AllZip-to (IsClassOf names) (IsClassOf longer) classes raws (λ c raw is. IsClassOf-kept c raw is) all
+
+  -- one more
+  pub classes_more : (classes : List Class) (raws : List Raw) (c : Class) (raw : Raw) → AllZip (IsClassOf names) classes raws → IsClassOf longer c raw → AllZip (IsClassOf longer) (classes ++ c ∷ []) (raws ++ raw ∷ [])
+  classes_more classes raws c raw all is = AllZip-more (IsClassOf longer) classes raws c raw (classes_kept classes raws all) is

@@ -2,3 +2,4 @@ pub mod Causes
 pub mod Faults
 pub mod Load
 pub mod Steps
+pub mod Gathering

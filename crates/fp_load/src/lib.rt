@@ -3,6 +3,7 @@
 
 mod directory;
 mod fault;
+mod gathering;
 mod paths;
 mod reading;
 
