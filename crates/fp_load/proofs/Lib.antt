@@ -1,3 +1,4 @@
 mod PathLemmas
 mod PassedLemmas
 mod GatheringLemmas
+mod ReadLemmas
