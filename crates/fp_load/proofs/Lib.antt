@@ -2,3 +2,5 @@ mod PathLemmas
 mod PassedLemmas
 mod GatheringLemmas
 mod ReadLemmas
+mod OutcomeLemmas
+mod SizeLemmas

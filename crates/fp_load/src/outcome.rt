@@ -1,0 +1,71 @@
+ghost use Rattle.std.specs.Prelude.{◌≡◌, ◌≤◌, List, length, All, IfOk, IfErr, Ok};
+ghost use Rattle.fp_base.specs.Files.{File};
+ghost use Rattle.fp_load.specs.Faults.{Tells};
+ghost use Rattle.fp_load.specs.Gathering.{IsGathered};
+ghost use Rattle.fp_load.specs.Load.{faults_of, loaded_of_faults, loaded_of_set, raws_of};
+ghost use Rattle.fp_load.specs.Steps.{IsInner};
+ghost use Rattle.fp_model.specs.ClassSet.{AreFew, IsClassOver, SetView, TellsRefusal, refusal_of};
+
+use crate::fault::LoadFault;
+use crate::gathering::Gathered;
+use fp_base::{MAX_NAMES, Names};
+use fp_model::{Class, ClassSet, LimitName, SetFault};
+use std::alloc::Global;
+
+/// The most methods that a set may have.
+const MOST_METHODS: u32 = 262_144;
+
+/// The set of the classes that were gathered, or why there is none.
+pub fn finish(alloc: Global, gathered: Gathered) -> Result<ClassSet, LoadFault>
+    requires { (files : List File) × (length files ≤ 20000) × IsGathered files gathered }
+    ensures set { IfOk result (λ set. (files : List File) → IsGathered files gathered → loaded_of_faults (raws_of files) (faults_of files) ≡ Ok set) }
+    ensures fault { IfErr result (λ fault. (files : List File) → IsGathered files gathered → Tells (loaded_of_faults (raws_of files) (faults_of files)) fault) }
+    ensures inner { IfErr result IsInner }
+{
+    let Gathered {
+        names,
+        classes,
+        faults,
+        full,
+    } = gathered;
+    if !faults.is_empty() {
+        return Err(LoadFault::Refused(faults));
+    }
+    if full {
+        return Err(LoadFault::Limit(LimitName::Names, u64::from(MAX_NAMES)));
+    }
+    build_set(alloc, classes, names)
+}
+
+/// The set of classes, or why they are none.
+fn build_set(alloc: Global, classes: Vec<Class>, names: Names) -> Result<ClassSet, LoadFault>
+    requires over { All (IsClassOver names) classes.items }
+    requires few { AreFew classes.items }
+    ensures set { IfOk result (λ set. loaded_of_set (record { classes = classes.items; names = names }) (refusal_of (record { classes = classes.items; names = names })) ≡ Ok set) }
+    ensures fault { IfErr result (λ fault. Tells (loaded_of_set (record { classes = classes.items; names = names }) (refusal_of (record { classes = classes.items; names = names }))) fault) }
+    ensures inner { IfErr result IsInner }
+{
+    let set = match ClassSet::build(alloc, classes, names) {
+        Ok(set) => set,
+        Err(fault) => return Err(unsound(fault)),
+    };
+    let (_classes, _fields, methods) = set.counts();
+    if methods > MOST_METHODS {
+        return Err(LoadFault::Limit(
+            LimitName::Methods,
+            u64::from(MOST_METHODS),
+        ));
+    }
+    Ok(set)
+}
+
+/// That classes are no sound set.
+fn unsound(fault: SetFault) -> LoadFault
+    ensures tells { (set : SetView) → TellsRefusal (refusal_of set) fault → Tells (loaded_of_set set (refusal_of set)) result }
+    ensures inner { IsInner result }
+{
+    match fault {
+        SetFault::Memory => LoadFault::Memory,
+        why => LoadFault::Set(why),
+    }
+}
