@@ -1,20 +1,29 @@
 -- Files that are read one after the other.
-use Rattle.std.proofs.Common.{◌≡◌, ℕ, zero, suc, ◌+◌, ◌<◌, ◌≤◌, Bool, List, [], ◌∷◌, ◌++◌, length, map, get_or, take, drop, Option, Some, IsTrue, refl, sym, ap, subst, ◌∙◌, arith}
+use Rattle.std.proofs.Common.{◌≡◌, ℕ, zero, suc, ◌+◌, ◌<◌, ◌≤◌, Bool, true, List, [], ◌∷◌, ◌++◌, length, map, get_or, take, drop, Option, Some, None, Result, Err, IsTrue, nat_lt, inr, refl, sym, ap, subst, ◌∙◌, arith}
 use Rattle.std.specs.Prelude.{String, string_bytes, unwrap_or, All, Contains}
 use Rattle.std.specs.declared.alloc.Global.{Global}
-use Rattle.std.proofs.lemmas.List.{append_assoc, drop_more, get_or-map, length_push, length-map, map-append, map_push, take-append-drop, take_more}
-use Rattle.std.proofs.lemmas.List.Elements.{All-contains_itself, All-get_or, Contains-append_right}
+use Rattle.std.proofs.lemmas.Bool.{cond-false, le-ltb}
+use Rattle.std.proofs.lemmas.List.{append-nil, append_assoc, drop_more, get_or-map, length_push, length-map, map-append, map_push, take-append-drop, take_more}
+use Rattle.std.proofs.lemmas.List.Elements.{All-contains, All-contains_itself, All-get_or, Contains-append_right}
 use Rattle.fp_base.specs.Calls.{Call, Gained, Grows}
 use Rattle.fp_base.specs.Calls.Call.{Reading}
-use Rattle.fp_base.specs.Files.{File, bytes_at, texts}
+use Rattle.fp_base.specs.Files.{File, bytes_at, class_paths, is_class_file, texts}
+use Rattle.fp_base.specs.Order.{in_text_order}
+use Rattle.fp_model.specs.declared.limit.LimitName.TheVariants.{Files}
 use Rattle.fp_load.specs.declared.fault.LoadFault.{LoadFault}
 use Rattle.fp_load.specs.declared.fault.LoadFault.TheVariants as fault
 use Rattle.fp_load.specs.declared.gathering.Gathered.{Gathered}
-use Rattle.fp_load.specs.Causes.{Keeps}
+use Rattle.fp_load.specs.Causes.{Blames, Keeps}
 use Rattle.fp_load.specs.Gathering.{HasRead, IsGathered}
-use Rattle.fp_load.specs.Load.{most_bytes, most_file_bytes, passed_from}
+use Rattle.fp_load.specs.Load.{faults_of, files_below, loaded_of, loaded_of_bytes, loaded_of_faults, most_files, passed_from, raws_of}
+use Rattle.fp_load.specs.Load.LoadRefusal.{Passed}
 use Rattle.fp_load.specs.Steps.{file_at, BlamesReading, TellsPassed}
-use Rattle.fp_load.proofs.PassedLemmas.{none_passed}
+use Rattle.fp_load.proofs.PassedLemmas.{none_passed, passed_at_end}
+
+-- a call that was gained after others were is gained
+gained_later : (before mid now : List Call) (call : Call) → Grows before mid → Gained mid now call → Gained before now call
+gained_later before mid now call grows gained =
+    (grows.0 ++ gained.0, gained.1 ∙ ap (λ calls. calls ++ gained.0) grows.1 ∙ append_assoc before grows.0 gained.0, Contains-append_right grows.0 gained.0 call gained.2)
 
 -- ---- one path of many
 
@@ -43,11 +52,7 @@ module _ (paths : List (String Global)) (i : ℕ) (path : String Global) (within
       only : (x y : List ℕ) → Contains (x ∷ []) y → y ≡ x
       only x y (zero, below, at) = sym at
       only x y (suc k, below, at) = absurd (omega arith)
-
-      gained_later : (before mid now : List Call) (call : Call) → Grows before mid → Gained mid now call → Gained before now call
-      gained_later before mid now call grows gained =
-          (grows.0 ++ gained.0, gained.1 ∙ ap (λ calls. calls ++ gained.0) grows.1 ∙ append_assoc before grows.0 gained.0, Contains-append_right grows.0 gained.0 call gained.2)
-  blamed_among before mid now (fault.Limit name most) grows blamed = tt
+  blamed_among before mid now (fault.Limit which most) grows blamed = tt
   blamed_among before mid now (fault.Refused refused) grows blamed = tt
   blamed_among before mid now (fault.Set why) grows blamed = tt
   blamed_among before mid now fault.Memory grows blamed = tt
@@ -100,3 +105,40 @@ Keeps-then t0 t1 t2 f0 f1 f2 c0 c1 c2 first second = record {
   told = second.told ∙ first.told;
   grows = (first.grows.0 ++ second.grows.0, second.grows.1 ∙ ap (λ calls. calls ++ second.grows.0) first.grows.1 ∙ append_assoc c0 first.grows.0 second.grows.0);
 }
+
+-- ---- all files
+
+-- a reading that fails is blamed on a listed path below the directory
+pub blamed_below : (dir : List ℕ) (listed later paths : List (List ℕ)) (before mid now : List Call) (f : LoadFault) → later ≡ listed → All (Contains listed) paths → All (λ p. is_class_file dir p ≡ true) paths → Grows before mid → BlamesReading paths mid now f → Blames dir later before now f
+blamed_below dir listed later paths before mid now (fault.Read named) same among below grows blamed = inr (
+  subst (λ l. Contains l (string_bytes named)) (sym same) (All-contains (Contains listed) paths (string_bytes named) among blamed.0),
+  All-contains (λ p. is_class_file dir p ≡ true) paths (string_bytes named) below blamed.0,
+  gained_later before mid now (Reading (string_bytes named)) grows blamed.1,
+)
+blamed_below dir listed later paths before mid now (fault.Limit which most) same among below grows blamed = tt
+blamed_below dir listed later paths before mid now (fault.Refused refused) same among below grows blamed = tt
+blamed_below dir listed later paths before mid now (fault.Set why) same among below grows blamed = tt
+blamed_below dir listed later paths before mid now fault.Memory same among below grows blamed = tt
+
+-- what comes of the files that are told, where they are those that were read
+told_outcome : (files read : List File) (dir : List ℕ) → files_below files dir ≡ read → passed_from 0 read ≡ None → length (class_paths files dir) ≤ 20000 → loaded_of files dir ≡ loaded_of_faults (raws_of read) (faults_of read)
+told_outcome files read dir same none few =
+    cond-false (nat_lt most_files (length (class_paths files dir))) (Err (Passed Files most_files)) (loaded_of_bytes (files_below files dir) (passed_from 0 (files_below files dir))) (le-ltb most_files (length (class_paths files dir)) few)
+    ∙ ap (λ l. loaded_of_bytes l (passed_from 0 l)) same
+    ∙ ap (loaded_of_bytes read) none
+
+-- the files that were read are few, and where files are told, the outcome is theirs
+pub all_read : (tells later : Bool) (files now : List File) (dir : List ℕ) (paths : List (String Global)) (sum : ℕ) (g : Gathered) → later ≡ tells → now ≡ files → length paths ≤ 20000
+    → (IsTrue tells → texts paths ≡ in_text_order (class_paths files dir)) → (IsTrue tells → length (class_paths files dir) ≤ 20000) → HasRead later now (texts paths) sum g
+    → (read : List File) × (length read ≤ 20000) × IsGathered read g × (IsTrue tells → loaded_of files dir ≡ loaded_of_faults (raws_of read) (faults_of read))
+all_read tells later files now dir paths sum g telling same few order told_few has =
+    let none : passed_from 0 has.read ≡ None = ap (passed_from 0) (sym (append-nil has.read)) ∙ has.passed [] ∙ passed_at_end sum in
+    (
+      has.read,
+      omega (arith, has.count, few, length-map paths string_bytes),
+      has.gathered,
+      λ t.
+      let below : files_below files dir ≡ has.read =
+      ap (map (file_at files)) (sym (order t)) ∙ ap (λ fs. map (file_at fs) (texts paths)) (sym same) ∙ sym (has.told (subst IsTrue (sym telling) t)) in
+      told_outcome files has.read dir below none (told_few t),
+    )

@@ -1,11 +1,16 @@
-ghost use Rattle.std.specs.Prelude.{◌≡◌, [], Ok, IfOk, IfErr, IsTrue, string_bytes};
+ghost use Rattle.std.specs.Prelude.{◌≡◌, ◌≤◌, List, [], length, Ok, IfOk, IfErr, IsTrue, string_bytes};
+ghost use Rattle.fp_base.specs.Files.{File};
 ghost use Rattle.fp_load.specs.Causes.{Blames, Keeps};
 ghost use Rattle.fp_load.specs.Faults.{Tells};
-ghost use Rattle.fp_load.specs.Load.{loaded_of};
+ghost use Rattle.fp_load.specs.Gathering.{IsGathered};
+ghost use Rattle.fp_load.specs.Load.{faults_of, loaded_of, loaded_of_faults, raws_of};
 
 use crate::fault::LoadFault;
+use crate::gathering::{Gathered, gather, nothing};
+use crate::outcome::finish;
+use crate::paths::list_paths;
 use fp_base::ClassDir;
-use fp_facts::Loaded;
+use fp_facts::{Assume, Loaded};
 use fp_words::Job;
 use std::alloc::Global;
 
@@ -24,5 +29,34 @@ pub fn load<D: ClassDir>(alloc: Global, dir: &mut D, job: &Job) -> Result<Loaded
     ensures fault { IfErr result (λ fault. IsTrue (D.tells dir.old) → Tells (loaded_of (D.files dir.old) (string_bytes job.now.dir)) fault) }
     ensures blames { IfErr result (λ fault. Blames (string_bytes job.now.dir) (D.listed dir.new) (D.failed dir.old) (D.failed dir.new) fault) }
 {
-    Err(LoadFault::Memory)
+    let gathered = match gather_below(alloc, dir, job.dir.as_str()) {
+        Ok(gathered) => gathered,
+        Err(fault) => return Err(fault),
+    };
+    match finish(alloc, gathered) {
+        Ok(set) => Ok(Loaded {
+            set,
+            assume: Assume::none(alloc),
+        }),
+        Err(fault) => Err(fault),
+    }
+}
+
+/// What is gathered of the class files below a directory, of which there are not too many.
+fn gather_below<D: ClassDir>(alloc: Global, dir: &mut D, path: &str) -> Result<Gathered, LoadFault>
+    ensures keeps { Keeps (D.tells dir.old) (D.files dir.old) (D.failed dir.old) (D.tells dir.new) (D.files dir.new) (D.failed dir.new) }
+    ensures gathered { IfOk result (λ gathered. (files : List File) × (length files ≤ 20000) × IsGathered files gathered
+        × (IsTrue (D.tells dir.old) → loaded_of (D.files dir.old) path.now ≡ loaded_of_faults (raws_of files) (faults_of files))) }
+    ensures fault { IfErr result (λ fault. IsTrue (D.tells dir.old) → Tells (loaded_of (D.files dir.old) path.now) fault) }
+    ensures blames { IfErr result (λ fault. Blames path.now (D.listed dir.new) (D.failed dir.old) (D.failed dir.new) fault) }
+{
+    let paths = match list_paths(alloc, dir, path) {
+        Ok(paths) => paths,
+        Err(fault) => return Err(fault),
+    };
+    let mut gathered = nothing(alloc);
+    match gather(alloc, dir, paths.as_slice(), &mut gathered) {
+        Ok(()) => Ok(gathered),
+        Err(fault) => Err(fault),
+    }
 }
