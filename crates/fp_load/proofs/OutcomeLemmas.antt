@@ -1,12 +1,12 @@
 -- What comes of the files that were gathered.
-use Rattle.std.proofs.Common.{◌≡◌, ℕ, ◌<◌, ◌≤◌, nat_lt, Bool, true, false, not, List, [], ◌∷◌, ◌++◌, Option, Some, None, Result, Ok, Err, length, map, if◌then◌else◌, refl, sym, ap, ap₂, subst, ◌∙◌, arith}
-use Rattle.std.specs.Prelude.{All, IfOk, IfErr, String, filter}
+use Rattle.std.proofs.Common.{◌≡◌, ℕ, ◌≤◌, nat_lt, Bool, true, false, not, List, [], ◌∷◌, ◌++◌, Result, Ok, Err, length, map, if◌then◌else◌, refl, sym, ap, ap₂, subst, ◌∙◌}
+use Rattle.std.specs.Prelude.{All, IfOk, IfErr, String}
 use Rattle.std.specs.declared.alloc.Global.{Global}
 use Rattle.std.specs.List.{flat_map, AllZip}
-use Rattle.std.proofs.lemmas.Bool.{cond-false, cond-true, le-ltb, lt-ltb}
+use Rattle.std.proofs.lemmas.Bool.{cond-false, le-ltb}
 use Rattle.std.proofs.lemmas.List.Elements.{All-cons, All-nil}
 use Rattle.fp_base.specs.Files.{File}
-use Rattle.fp_base.specs.Names.{AreDistinct, with_names}
+use Rattle.fp_base.specs.Names.{AreDistinct}
 use Rattle.fp_base.proofs.NameLemmas.{AreDistinct-nil, AreDistinct-with_names}
 use Rattle.fp_model.specs.declared.class.Class.{Class}
 use Rattle.fp_model.specs.declared.fault.FileFault.{FileFault}
@@ -19,11 +19,10 @@ use Rattle.fp_class.specs.Naming.{taken_names}
 use Rattle.fp_class.proofs.OneClass.{one_class}
 use Rattle.fp_load.specs.declared.fault.FileRefusal.{FileRefusal}
 use Rattle.fp_load.specs.declared.fault.LoadFault.{LoadFault}
-use Rattle.fp_load.specs.declared.gathering.Gathered.{Gathered}
 use Rattle.fp_load.specs.Faults.{refusal_told, Tells}
-use Rattle.fp_load.specs.Gathering.{with_class, IsGathered, IsNamed}
+use Rattle.fp_load.specs.Gathering.{with_class, IsNamed}
 use Rattle.fp_load.specs.Load.{classes_of, faults_of, loaded_of_faults, loaded_of_raws, loaded_of_set, most_names, names_of, raws_of, set_of, LoadRefusal}
-use Rattle.fp_load.specs.Load.LoadRefusal.{Faulty, Passed}
+use Rattle.fp_load.specs.Load.LoadRefusal.{Passed}
 
 -- ---- the set
 

@@ -6,7 +6,7 @@ use Rattle.std.proofs.lemmas.Bool.{cond-true, cond-false, lt-ltb, le-ltb}
 use Rattle.fp_base.specs.Files.{File, first_bytes}
 use Rattle.fp_base.proofs.ReadLemmas.{first_bytes-short, first_bytes-long}
 use Rattle.fp_model.specs.declared.limit.LimitName.TheVariants.{FileBytes, AllBytes}
-use Rattle.fp_load.specs.Load.{passed_from, most_bytes, most_file_bytes, LoadRefusal}
+use Rattle.fp_load.specs.Load.{passed_from, most_bytes, most_file_bytes}
 use Rattle.fp_load.specs.Load.LoadRefusal.{Passed}
 
 -- ---- what was read of a file

@@ -1,9 +1,7 @@
 -- What a listing says of the told files.
-use Rattle.std.proofs.Common.{◌≡◌, ℕ, ◌+◌, ◌<◌, ◌≤◌, nat_lt, Bool, true, false, List, [], ◌∷◌, length, map, get_or, Option, Some, Result, Ok, Err, OnOk, refl, sym, ap, subst, ◌∙◌, arith, is_lt, nat_cmp}
-use Rattle.std.specs.Prelude.{String, string_bytes, IsSome, All, Contains, IsPermutation, if◌then◌else◌}
-use Rattle.std.specs.declared.alloc.Global.{Global}
+use Rattle.std.proofs.Common.{◌≡◌, ℕ, ◌+◌, ◌<◌, nat_lt, Bool, true, false, List, [], ◌∷◌, length, map, get_or, Option, Some, Result, Ok, Err, OnOk, refl, sym, ap, subst, ◌∙◌, arith, is_lt, nat_cmp}
+use Rattle.std.specs.Prelude.{IsSome, All, Contains, IsPermutation, if◌then◌else◌}
 use Rattle.std.specs.Cmp.Lexicographic.{slice_cmp}
-use Rattle.std.specs.List.{AllPass}
 use Rattle.std.specs.List.Sorted.{IsSorted}
 use Rattle.std.specs.Result.{is_err}
 use Rattle.std.specs.Str.{bytes_eq}
@@ -15,9 +13,8 @@ use Rattle.std.proofs.lemmas.Slice.Eq.{bytes_eq-Decides}
 use Rattle.fp_base.specs.Files.{File, bytes_at, class_paths, is_class_file, paths_of, texts}
 use Rattle.fp_base.specs.Order.{in_text_order}
 use Rattle.fp_base.proofs.OrderLemmas.{sorted_is_order}
-use Rattle.fp_model.specs.ClassSet.{SetView}
 use Rattle.fp_model.specs.declared.limit.LimitName.TheVariants.{Files}
-use Rattle.fp_load.specs.Load.{loaded_of, loaded_of_bytes, files_below, passed_from, most_files, LoadRefusal}
+use Rattle.fp_load.specs.Load.{loaded_of, loaded_of_bytes, files_below, passed_from, most_files}
 use Rattle.fp_load.specs.Load.LoadRefusal.{Passed}
 
 -- what is said of a value, where there is no fault

@@ -1,7 +1,7 @@
 -- How much the classes of well-formed files have.
-use Rattle.std.proofs.Common.{◌≡◌, ℕ, ◌+◌, ◌*◌, ◌<◌, ◌≤◌, ◌^◌, Bool, true, List, [], ◌∷◌, ◌++◌, Result, Ok, Err, not, length, refl, sym, ap, subst, ◌∙◌, arith, length-append}
-use Rattle.std.specs.Prelude.{All, filter}
-use Rattle.std.specs.List.{flat_map, AllZip}
+use Rattle.std.proofs.Common.{◌≡◌, ℕ, ◌*◌, ◌<◌, ◌≤◌, true, List, [], ◌∷◌, Result, Ok, Err, not, length, refl, subst, arith, length-append}
+use Rattle.std.specs.Prelude.{All}
+use Rattle.std.specs.List.{AllZip}
 use Rattle.std.proofs.lemmas.Bool.{ltb-true}
 use Rattle.std.proofs.lemmas.List.Elements.{All-filter, All-head, All-tail}
 use Rattle.std.proofs.lemmas.List.Filters.{length-filter_both}
@@ -11,7 +11,6 @@ use Rattle.fp_model.specs.declared.class.Class.{Class}
 use Rattle.fp_model.specs.declared.fault.FileFault.{FileFault}
 use Rattle.fp_model.specs.declared.raw.Raw.{Raw}
 use Rattle.fp_model.specs.ClassSet.{fields_of, methods_of, AreFew}
-use Rattle.fp_model.specs.Reading.{demanded}
 use Rattle.fp_model.specs.References.{each_checked, entries_checked}
 use Rattle.fp_model.specs.Spelling.{is_u2, spelled, spelled_entry}
 use Rattle.fp_model.proofs.Readers.{opened, IsBytes}

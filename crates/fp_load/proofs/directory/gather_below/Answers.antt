@@ -1,4 +1,4 @@
-use Rattle.std.proofs.Common.{◌≡◌, ap, subst}
+use Rattle.std.proofs.Common.{subst}
 use Rattle.fp_base.specs.Files.{texts}
 use Rattle.fp_load.specs.Gathering.{HasRead}
 use Rattle.fp_load.specs.Steps.{BlamesReading}

@@ -1,6 +1,6 @@
-use Rattle.std.proofs.Common.{◌≡◌, ◌≤◌, ◌<◌, ◌∷◌, ◌∙◌, [], List, ℕ, length, sym, ap, subst, arith}
+use Rattle.std.proofs.Common.{◌≡◌, ◌<◌, ◌∷◌, ◌∙◌, [], length, sym, ap, subst, arith}
 use Rattle.std.specs.Prelude.{IsSome, IsTrue, string_bytes}
-use Rattle.fp_base.specs.Files.{File, bytes_at}
+use Rattle.fp_base.specs.Files.{bytes_at}
 use Rattle.fp_load.specs.Steps.{file_at, BlamesReading, TellsPassed}
 use Rattle.fp_load.specs.Load.{passed_from}
 use Rattle.fp_load.proofs.PathLemmas.{where_ok}

@@ -1,7 +1,6 @@
-use Rattle.std.proofs.Common.{◌≡◌, ◌≤◌, List, ℕ, length, ap, arith, sym, ◌∙◌}
-use Rattle.fp_base.specs.Files.{File}
+use Rattle.std.proofs.Common.{length, ap, arith}
 use Rattle.fp_model.specs.ClassSet.{refusal_of}
-use Rattle.fp_load.specs.Gathering.{with_class, IsGathered, IsNamed}
+use Rattle.fp_load.specs.Gathering.{with_class, IsGathered}
 use Rattle.fp_load.specs.Load.{faults_of, loaded_of_faults, loaded_of_set, raws_of}
 use Rattle.fp_load.proofs.OutcomeLemmas.{all_over, fault_told, loaded-is, none_refused, set_loaded}
 use Rattle.fp_load.proofs.SizeLemmas.{AreFew-classes}

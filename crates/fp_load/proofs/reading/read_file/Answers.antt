@@ -1,4 +1,4 @@
-use Rattle.std.proofs.Common.{◌≡◌, ◌+◌, ◌<◌, ◌≤◌, Some, [], length, ap, arith}
+use Rattle.std.proofs.Common.{◌≡◌, Some, [], length, ap, arith}
 use Rattle.std.specs.Prelude.{unwrap_or}
 use Rattle.fp_base.specs.Files.{bytes_at}
 use Rattle.fp_load.specs.Steps.{file_at}
