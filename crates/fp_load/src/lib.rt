@@ -7,6 +7,8 @@ mod gathering;
 mod outcome;
 mod paths;
 mod reading;
+#[cfg(test)]
+mod tests;
 
 pub use directory::load;
 pub use fault::{FileRefusal, LoadFault};
