@@ -338,12 +338,12 @@ module _ (test : ℕ → Bool) (max_locals : ℕ) where
   named_suits names entries op index dims i named is = elim (or_cases (is_field_op op) _ named) [
     | inl field ↦ of_suits (λ texts. IsFieldInstr names op texts i) i (member_at entries index) (λ texts h. field_suits names op texts i h) (is.field field)
     | inr more ↦ elim (or_cases (is_class_op op) _ more) [
-        | inl class ↦ of_suits (λ text. IsClassInstr names op text i) i (class_name_at entries index) (λ text h. class_suits names op text i h) (is.class class)
-        | inr rest ↦ elim (or_cases (op == 189) (op == 197) rest) [
-            | inl array ↦ of_suits (λ text. IsArrayInstr names text i) i (class_name_at entries index) (λ text h. array_of_suits names text i h) (is.array (eqb-true op 189 array))
-            | inr multi ↦ of_suits (λ text. IsMultiArrayInstr names dims text i) i (class_name_at entries index) (λ text h. multi_suits names dims text i h) (is.multi_array (eqb-true op 197 multi))
-          ]
+      | inl class ↦ of_suits (λ text. IsClassInstr names op text i) i (class_name_at entries index) (λ text h. class_suits names op text i h) (is.class class)
+      | inr rest ↦ elim (or_cases (op == 189) (op == 197) rest) [
+        | inl array ↦ of_suits (λ text. IsArrayInstr names text i) i (class_name_at entries index) (λ text h. array_of_suits names text i h) (is.array (eqb-true op 189 array))
+        | inr multi ↦ of_suits (λ text. IsMultiArrayInstr names dims text i) i (class_name_at entries index) (λ text h. multi_suits names dims text i h) (is.multi_array (eqb-true op 197 multi))
       ]
+    ]
   ]
 
   -- ---- any instruction
@@ -352,10 +352,10 @@ module _ (test : ℕ → Bool) (max_locals : ℕ) where
   instr_suits names entries boots pc ins i fits leads is = elim (cases_Bool (takes_names ins.op)) [
     | inr plain ↦ plain_suits entries pc ins i fits leads (is.plain plain)
     | inl taking ↦ elim (or_cases (is_named_op ins.op) _ taking) [
-        | inl named ↦ of_suits (λ index. IsNamedInstr names entries ins.op index (dims_in ins) i) i (index_in ins) (λ index h. named_suits names entries ins.op index (dims_in ins) i named h) (is.named named)
-        | inr more ↦ elim (or_cases (is_call_op ins.op) (is_site_op ins.op) more) [
-            | inl call ↦ of_suits (λ index. IsOf (λ texts. IsCallInstr names ins.op texts i) (member_at entries index)) i (index_in ins) (λ index h. of_suits (λ texts. IsCallInstr names ins.op texts i) i (member_at entries index) (λ texts h. call_suits names ins.op texts i h) h) (is.call call)
-            | inr computed ↦ of_suits (λ index. IsOf (λ site. IsSiteInstr names entries site i) (site_at entries boots index)) i (index_in ins) (λ index h. of_suits (λ site. IsSiteInstr names entries site i) i (site_at entries boots index) (λ site h. site_suits names entries site i h) h) (is.site computed)
-          ]
+      | inl named ↦ of_suits (λ index. IsNamedInstr names entries ins.op index (dims_in ins) i) i (index_in ins) (λ index h. named_suits names entries ins.op index (dims_in ins) i named h) (is.named named)
+      | inr more ↦ elim (or_cases (is_call_op ins.op) (is_site_op ins.op) more) [
+        | inl call ↦ of_suits (λ index. IsOf (λ texts. IsCallInstr names ins.op texts i) (member_at entries index)) i (index_in ins) (λ index h. of_suits (λ texts. IsCallInstr names ins.op texts i) i (member_at entries index) (λ texts h. call_suits names ins.op texts i h) h) (is.call call)
+        | inr computed ↦ of_suits (λ index. IsOf (λ site. IsSiteInstr names entries site i) (site_at entries boots index)) i (index_in ins) (λ index h. of_suits (λ site. IsSiteInstr names entries site i) i (site_at entries boots index) (λ site h. site_suits names entries site i h) h) (is.site computed)
       ]
+    ]
   ]

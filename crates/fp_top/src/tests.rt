@@ -194,7 +194,12 @@ fn reports_a_class_and_refuses_what_is_none(rt: HostRuntime) -> Result<(), Fail>
             "",
         ),
         (&MODULE, Status::Done, "cells 0\n", ""),
-        (&WITH_METHOD, Status::Done, "declared A final\ncells 1\n", ""),
+        (
+            &WITH_METHOD,
+            Status::Done,
+            "declared A final\ncells 1\n",
+            "",
+        ),
         (&H, Status::Done, "declared H final\ncells 1\n", ""),
         (
             &A_FINAL[..4],
@@ -250,15 +255,21 @@ fn reads_the_code_of_methods(rt: HostRuntime) -> Result<(), Fail> {
     let alloc = rt.alloc();
     let cases: [(&[u8], &str); 7] = [
         (
-            &[3, 0xAA, 0, 0, 0, 0, 0, 19, 0, 0, 0, 0, 0, 0, 0, 0, 0, 0, 0, 19, 0xB1],
+            &[
+                3, 0xAA, 0, 0, 0, 0, 0, 19, 0, 0, 0, 0, 0, 0, 0, 0, 0, 0, 0, 19, 0xB1,
+            ],
             "",
         ),
         (
-            &[0, 3, 0xAA, 0, 0, 0, 0, 18, 0, 0, 0, 0, 0, 0, 0, 0, 0, 0, 0, 18, 0xB1],
+            &[
+                0, 3, 0xAA, 0, 0, 0, 0, 18, 0, 0, 0, 0, 0, 0, 0, 0, 0, 0, 0, 18, 0xB1,
+            ],
             "",
         ),
         (
-            &[0, 0, 3, 0xAA, 0, 0, 0, 17, 0, 0, 0, 0, 0, 0, 0, 0, 0, 0, 0, 17, 0xB1],
+            &[
+                0, 0, 3, 0xAA, 0, 0, 0, 17, 0, 0, 0, 0, 0, 0, 0, 0, 0, 0, 0, 17, 0xB1,
+            ],
             "",
         ),
         (
@@ -267,10 +278,7 @@ fn reads_the_code_of_methods(rt: HostRuntime) -> Result<(), Fail> {
             ],
             "",
         ),
-        (
-            &[0xA7, 0, 1, 0xB1],
-            "refused: d/A.class: bounds at 90\n",
-        ),
+        (&[0xA7, 0, 1, 0xB1], "refused: d/A.class: bounds at 90\n"),
         (&[0xCA, 0xB1], "refused: d/A.class: opcode 202 at 90\n"),
         (
             &[0xA8, 0, 3, 0xB1],
