@@ -67,8 +67,7 @@ module _ (names longer : List (List ℕ)) (kept : Keeps names longer) where
   fields_of entries [] (m ∷ members) over all = absurd all
   fields_of entries (f ∷ fields) [] over all = absurd all
   fields_of entries (f ∷ fields) (m ∷ members) over all =
-      let one = All-head (IsFieldOver names) f fields over in
-      (
+      let one = All-head (IsFieldOver names) f fields over in (
         record {
           flags = all.0.flags;
           name = same_at f.name one.name ∙ all.0.name;
@@ -102,8 +101,7 @@ module _ (names longer : List (List ℕ)) (kept : Keeps names longer) where
   methods_of entries boots [] (m ∷ members) over all = absurd all
   methods_of entries boots (m ∷ methods) [] over all = absurd all
   methods_of entries boots (m ∷ methods) (member ∷ members) over all =
-      let one = All-head (IsMethodOver names) m methods over in
-      (
+      let one = All-head (IsMethodOver names) m methods over in (
         record {
           flags = all.0.flags;
           name = same_at m.name one.name ∙ all.0.name;

@@ -132,13 +132,12 @@ pub all_read : (tells later : Bool) (files now : List File) (dir : List ℕ) (pa
     → (IsTrue tells → texts paths ≡ in_text_order (class_paths files dir)) → (IsTrue tells → length (class_paths files dir) ≤ 20000) → HasRead later now (texts paths) sum g
     → (read : List File) × (length read ≤ 20000) × IsGathered read g × (IsTrue tells → loaded_of files dir ≡ loaded_of_faults (raws_of read) (faults_of read))
 all_read tells later files now dir paths sum g telling same few order told_few has =
-    let none : passed_from 0 has.read ≡ None = ap (passed_from 0) (sym (append-nil has.read)) ∙ has.passed [] ∙ passed_at_end sum in
-    (
+    let none : passed_from 0 has.read ≡ None = ap (passed_from 0) (sym (append-nil has.read)) ∙ has.passed [] ∙ passed_at_end sum in (
       has.read,
       omega (arith, has.count, few, length-map paths string_bytes),
       has.gathered,
       λ t.
-      let below : files_below files dir ≡ has.read =
-      ap (map (file_at files)) (sym (order t)) ∙ ap (λ fs. map (file_at fs) (texts paths)) (sym same) ∙ sym (has.told (subst IsTrue (sym telling) t)) in
-      told_outcome files has.read dir below none (told_few t),
+          let below : files_below files dir ≡ has.read =
+          ap (map (file_at files)) (sym (order t)) ∙ ap (λ fs. map (file_at fs) (texts paths)) (sym same) ∙ sym (has.told (subst IsTrue (sym telling) t)) in
+          told_outcome files has.read dir below none (told_few t),
     )

@@ -51,10 +51,7 @@ fn build_set(alloc: Global, classes: Vec<Class>, names: Names) -> Result<ClassSe
     };
     let (_classes, _fields, methods) = set.counts();
     if methods > MOST_METHODS {
-        return Err(LoadFault::Limit(
-            LimitName::Methods,
-            u64::from(MOST_METHODS),
-        ));
+        return Err(LoadFault::Limit(LimitName::Methods, u64::from(MOST_METHODS)));
     }
     Ok(set)
 }

@@ -388,7 +388,11 @@ fn reads_the_class_files_of_a_directory(rt: HostRuntime) -> Result<(), Fail> {
     let cases: [(&[(&str, &[u8])], Status, &str, &str); 7] = [
         (&[], Status::Done, "cells 0\n", ""),
         (
-            &[("d/H.class", &H), ("d/A.class", &A_FINAL), ("e/A.class", &A_FINAL)],
+            &[
+                ("d/H.class", &H),
+                ("d/A.class", &A_FINAL),
+                ("e/A.class", &A_FINAL),
+            ],
             Status::Done,
             "declared A final\ndeclared H final\ncells 2\n",
             "",
@@ -412,7 +416,12 @@ fn reads_the_class_files_of_a_directory(rt: HostRuntime) -> Result<(), Fail> {
             "refused: cycle X\n",
         ),
         (
-            &[("d/C.class", &x), ("d/B.class", &A_FINAL[..4]), ("d/A.class", with_byte.as_slice()), ("d/D.class", &x)],
+            &[
+                ("d/C.class", &x),
+                ("d/B.class", &A_FINAL[..4]),
+                ("d/A.class", with_byte.as_slice()),
+                ("d/D.class", &x),
+            ],
             Status::Refused,
             "",
             "refused: d/A.class: trailing at 69\nrefused: d/B.class: truncated at 4\n",
@@ -431,27 +440,6 @@ fn reads_the_class_files_of_a_directory(rt: HostRuntime) -> Result<(), Fail> {
         assert_eq!(rt; ending.out.as_slice(), out.as_bytes());
         assert_eq!(rt; ending.err.as_slice(), err.as_bytes());
     }
-    Ok(())
-}
-
-/// So many empty class files.
-fn empty_files(alloc: Global, count: u32) -> Result<Vec<(String, Vec<u8>)>, AllocError> {
-    let mut files = Vec::new(alloc);
-    for number in 0..count {
-        files.push((format!(in alloc; "d/{number}.class")?, Vec::new(alloc)))?;
-    }
-    Ok(files)
-}
-
-#[test]
-fn refuses_too_many_files_before_one_is_read(rt: HostRuntime) -> Result<(), Fail> {
-    let alloc = rt.alloc();
-    let files = empty_files(alloc, 20_001)?;
-    let first_read = Vec::from_slice(alloc, &[1])?;
-    let ending = run(&rt, alloc, &WORDS, files, first_read, Vec::new(alloc))?;
-    assert_eq!(rt; ending.status, Status::Limit);
-    assert_eq!(rt; ending.err.as_slice(), b"limit: files 20000\n".as_slice());
-    assert!(rt; ending.out.is_empty());
     Ok(())
 }
 
@@ -637,7 +625,14 @@ fn tells_which_call_of_the_outside_failed(rt: HostRuntime) -> Result<(), Fail> {
         (9, &[(0, 0)], Status::WriteFault, "", "write fault\n"),
     ];
     for (failing_call, failing_puts, status, out, err) in cases {
-        let files = files_with(alloc, &[("d/C.class", &y), ("d/B.class", &x), ("d/A.class", &A_FINAL)])?;
+        let files = files_with(
+            alloc,
+            &[
+                ("d/C.class", &y),
+                ("d/B.class", &x),
+                ("d/A.class", &A_FINAL),
+            ],
+        )?;
         let calls = Vec::from_slice(alloc, &[failing_call])?;
         let puts = Vec::from_slice(alloc, failing_puts)?;
         let ending = run(&rt, alloc, &WORDS, files, calls, puts)?;

@@ -49,10 +49,7 @@ fn limit_text(alloc: Global, name: LimitName, most: u64) -> Result<String, Alloc
 }
 
 /// A line for each file that is refused.
-fn fault_lines(
-    alloc: Global,
-    refused: &[(String, FileRefusal)],
-) -> Result<String, AllocError>
+fn fault_lines(alloc: Global, refused: &[(String, FileRefusal)]) -> Result<String, AllocError>
     ensures { IfOk result (λ text. string_bytes text ≡ outcome.fault_lines (map refusal_told refused.now)) }
 {
     let mut lines = String::new(alloc);
