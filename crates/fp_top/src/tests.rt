@@ -137,16 +137,46 @@ fn changed(alloc: Global, bytes: &[u8], at: usize, byte: u8) -> Result<Vec<u8>, 
     Ok(copy)
 }
 
-/// Files of these paths and bytes.
+/// Files of these paths, each with the bytes that a letter stands for.
 fn files_with(
     alloc: Global,
-    contents: &[(&str, &[u8])],
+    contents: &[(&str, char)],
 ) -> Result<Vec<(String, Vec<u8>)>, AllocError> {
     let mut files = Vec::new(alloc);
-    for (path, bytes) in contents {
-        files.push(file(alloc, path, bytes)?)?;
+    for (path, letter) in contents {
+        files.push((String::from_str(alloc, path)?, bytes_of(alloc, *letter)?))?;
     }
     Ok(files)
+}
+
+/// The bytes that a letter stands for: the class A or H, the classes X and Y of which each extends the other, Z, which extends
+/// a class of no file, or the class A cut short, with a byte behind it, or too long.
+fn bytes_of(alloc: Global, letter: char) -> Result<Vec<u8>, AllocError> {
+    match letter {
+        'H' => Vec::from_slice(alloc, &H),
+        'X' => Vec::from_slice(alloc, &extending(b'X', b'Y')),
+        'Y' => Vec::from_slice(alloc, &extending(b'Y', b'X')),
+        'Z' => Vec::from_slice(alloc, &extending(b'Z', b'Q')),
+        'c' => Vec::from_slice(alloc, &A_FINAL[..4]),
+        't' => with_byte(alloc),
+        'l' => vec![in alloc; 0u8; 4_194_305],
+        _ => Vec::from_slice(alloc, &A_FINAL),
+    }
+}
+
+/// The class A with a byte behind it.
+fn with_byte(alloc: Global) -> Result<Vec<u8>, AllocError> {
+    let mut bytes = Vec::from_slice(alloc, &A_FINAL)?;
+    bytes.push(0)?;
+    Ok(bytes)
+}
+
+/// A class of this name that extends another, both of one letter.
+fn extending(name: u8, parent: u8) -> [u8; 38] {
+    [
+        0xCA, 0xFE, 0xBA, 0xBE, 0, 0, 0, 0x34, 0, 5, 1, 0, 1, name, 7, 0, 1, 1, 0, 1, parent, 7, 0,
+        3, 0, 0x21, 0, 2, 0, 4, 0, 0, 0, 0, 0, 0, 0, 0,
+    ]
 }
 
 fn run(
@@ -240,7 +270,7 @@ fn reports_a_class_and_refuses_what_is_none(rt: HostRuntime) -> Result<(), Fail>
 
 /// A class A with a static method m of this code.
 fn with_code(alloc: Global, code: &[u8]) -> Result<Vec<u8>, AllocError> {
-    let count = code.len() as u32;
+    let count = u32::try_from(code.len()).unwrap_or(0);
     let mut bytes = Vec::from_slice(alloc, &WITH_METHOD[..78])?;
     bytes.extend_from_slice(&count.wrapping_add(12).to_be_bytes())?;
     bytes.extend_from_slice(&[0, 2, 0, 0])?;
@@ -369,65 +399,48 @@ fn tells_each_fault_of_a_file_in_its_words(rt: HostRuntime) -> Result<(), Fail> 
     Ok(())
 }
 
-/// A class of this name that extends another, both of one letter.
-fn extending(name: u8, parent: u8) -> [u8; 38] {
-    [
-        0xCA, 0xFE, 0xBA, 0xBE, 0, 0, 0, 0x34, 0, 5, 1, 0, 1, name, 7, 0, 1, 1, 0, 1, parent, 7, 0,
-        3, 0, 0x21, 0, 2, 0, 4, 0, 0, 0, 0, 0, 0, 0, 0,
-    ]
-}
-
 #[test]
 fn reads_the_class_files_of_a_directory(rt: HostRuntime) -> Result<(), Fail> {
     let alloc = rt.alloc();
-    let x = extending(b'X', b'Y');
-    let y = extending(b'Y', b'X');
-    let long = vec![in alloc; 0u8; 4_194_305]?;
-    let mut with_byte = Vec::from_slice(alloc, &A_FINAL)?;
-    with_byte.push(0)?;
-    let cases: [(&[(&str, &[u8])], Status, &str, &str); 7] = [
+    let cases: [(&[(&str, char)], Status, &str, &str); 7] = [
         (&[], Status::Done, "cells 0\n", ""),
         (
-            &[
-                ("d/H.class", &H),
-                ("d/A.class", &A_FINAL),
-                ("e/A.class", &A_FINAL),
-            ],
+            &[("d/H.class", 'H'), ("d/A.class", 'A'), ("e/A.class", 'A')],
             Status::Done,
             "declared A final\ndeclared H final\ncells 2\n",
             "",
         ),
         (
-            &[("d/X.class", &x), ("d/A.class", &A_FINAL)],
+            &[("d/X.class", 'X'), ("d/A.class", 'A')],
             Status::Done,
             "declared A final\ndeclared X open\ncells 2\n",
             "",
         ),
         (
-            &[("d/A.class", &A_FINAL), ("d/e/B.class", &A_FINAL)],
+            &[("d/A.class", 'A'), ("d/e/B.class", 'A')],
             Status::Refused,
             "",
             "refused: duplicate A\n",
         ),
         (
-            &[("d/Y.class", &y), ("d/X.class", &x)],
+            &[("d/Y.class", 'Y'), ("d/X.class", 'X')],
             Status::Refused,
             "",
             "refused: cycle X\n",
         ),
         (
             &[
-                ("d/C.class", &x),
-                ("d/B.class", &A_FINAL[..4]),
-                ("d/A.class", with_byte.as_slice()),
-                ("d/D.class", &x),
+                ("d/C.class", 'X'),
+                ("d/B.class", 'c'),
+                ("d/A.class", 't'),
+                ("d/D.class", 'X'),
             ],
             Status::Refused,
             "",
             "refused: d/A.class: trailing at 69\nrefused: d/B.class: truncated at 4\n",
         ),
         (
-            &[("d/B.class", long.as_slice()), ("d/A.class", &A_FINAL[..4])],
+            &[("d/B.class", 'l'), ("d/A.class", 'c')],
             Status::Limit,
             "",
             "limit: file-bytes 4194304\n",
@@ -609,8 +622,6 @@ fn a_report_that_fails_is_a_first_part(rt: HostRuntime) -> Result<(), Fail> {
 #[test]
 fn tells_which_call_of_the_outside_failed(rt: HostRuntime) -> Result<(), Fail> {
     let alloc = rt.alloc();
-    let x = extending(b'X', b'Z');
-    let y = extending(b'Y', b'X');
     let cases: [(u32, &[(u32, u32)], Status, &str, &str); 5] = [
         (0, &[], Status::ReadFault, "", "read fault: d\n"),
         (1, &[], Status::ReadFault, "", "read fault: d/A.class\n"),
@@ -619,7 +630,7 @@ fn tells_which_call_of_the_outside_failed(rt: HostRuntime) -> Result<(), Fail> {
             9,
             &[(3, 3)],
             Status::WriteFault,
-            "declared A final\ndeclared X open\ndeclared Y open\ncel",
+            "declared A final\ndeclared H final\ndeclared Z open\ncel",
             "write fault\n",
         ),
         (9, &[(0, 0)], Status::WriteFault, "", "write fault\n"),
@@ -627,11 +638,7 @@ fn tells_which_call_of_the_outside_failed(rt: HostRuntime) -> Result<(), Fail> {
     for (failing_call, failing_puts, status, out, err) in cases {
         let files = files_with(
             alloc,
-            &[
-                ("d/C.class", &y),
-                ("d/B.class", &x),
-                ("d/A.class", &A_FINAL),
-            ],
+            &[("d/C.class", 'Z'), ("d/B.class", 'H'), ("d/A.class", 'A')],
         )?;
         let calls = Vec::from_slice(alloc, &[failing_call])?;
         let puts = Vec::from_slice(alloc, failing_puts)?;
