@@ -70,8 +70,8 @@ fn check_system(
 }
 
 impl JavaSystem {
-    /// Builds the system of a set for the words of a run, or tells the first of: an analysis that there isn't, a shown item that is
-    /// neither a kind nor a cell, more places than a system may have.
+    /// Builds the system of a set for the words of a run, or tells the first of: an analysis that there isn't, a root that is no
+    /// method with code, a shown item that is neither a kind nor a cell, more places than a system may have.
     pub fn build(alloc: Global, loaded: &Loaded, job: &Job) -> Result<JavaSystem, SystemFault>
         ensures cells { IfOk result (λ s. system_cells s ≡ java_cells loaded.now.set.classes) }
         ensures equations { IfOk result (λ s. system_equations s
@@ -79,9 +79,9 @@ impl JavaSystem {
         ensures shown { IfOk result (λ s. system_shown_cells s
             ≡ shown_from loaded.now.set (texts job.now.show) 0 (java_cells loaded.now.set.classes)) }
         ensures accepted { OnOk result
-            (system_refusal loaded.now.set (texts job.now.analyses) (texts job.now.show) ≡ None) }
+            (system_refusal loaded.now.set (texts job.now.analyses) (texts job.now.roots) (texts job.now.show) ≡ None) }
         ensures refused { IfErr result
-            (TellsSystemRefusal (system_refusal loaded.now.set (texts job.now.analyses) (texts job.now.show))) }
+            (TellsSystemRefusal (system_refusal loaded.now.set (texts job.now.analyses) (texts job.now.roots) (texts job.now.show))) }
     {
         let set = &loaded.set;
         let analyses = job.analyses.as_slice();
