@@ -1,6 +1,7 @@
 mod BuildLemmas
 mod JavaCellLemmas
 mod MakeLemmas
+mod MethodCellLemmas
 mod RowLemmas
 mod ShowLemmas
 mod StartLemmas
