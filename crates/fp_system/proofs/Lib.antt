@@ -2,6 +2,7 @@ mod BuildLemmas
 mod JavaCellLemmas
 mod MakeLemmas
 mod MethodCellLemmas
+mod RootLemmas
 mod RowLemmas
 mod ShowLemmas
 mod StartLemmas

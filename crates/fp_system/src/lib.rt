@@ -9,6 +9,7 @@ mod evaluate;
 mod fault;
 mod fixed;
 mod limits;
+mod roots;
 mod rows;
 mod shown;
 mod start;
