@@ -1,5 +1,5 @@
 //! The system of one small set, for several words.
-ghost use Rattle.std.specs.Prelude.{◌≡◌, ℕ, List, codes, length, IfOk};
+ghost use Rattle.std.specs.Prelude.{◌≡◌, ℕ, List, codes, length, All, IfOk};
 ghost use Rattle.fp_model.specs.ClassSet.{IsClassOver, IsFieldOver, IsMethodOver};
 ghost use Rattle.fp_model.specs.Descriptor.{IsDescrOf};
 
@@ -67,7 +67,19 @@ fn code(alloc: Global) -> Result<Code, Fail> {
     })
 }
 
-/// A class `A` with that field, a method `m` with code, and a method `n` without.
+/// A method `m` with code, and a method `n` without.
+fn methods(alloc: Global, names: &Names) -> Result<Items<Method>, Fail>
+    ensures over { IfOk result (All (IsMethodOver names.now)) }
+    ensures count { IfOk result (λ methods. length methods ≡ 2) }
+{
+    let code = code(alloc)?;
+    let first = method(alloc, names, b"m", Some(code))?;
+    let second = method(alloc, names, b"n", None)?;
+    let methods = Vec::from_array(alloc, [first, second])?;
+    Ok(Items::from_vec(methods))
+}
+
+/// A class `A` with that field and these methods.
 fn class(alloc: Global, names: &Names) -> Result<Class, Fail>
     ensures over { IfOk result (IsClassOver names.now) }
     ensures fields { IfOk result (λ class. length class.fields ≡ 1) }
@@ -77,17 +89,14 @@ fn class(alloc: Global, names: &Names) -> Result<Class, Fail>
     let parent = names.find(b"java/lang/Object").ok_or("no name")?;
     let field = field(names)?;
     let fields = Vec::from_array(alloc, [field])?;
-    let code = code(alloc)?;
-    let first = method(alloc, names, b"m", Some(code))?;
-    let second = method(alloc, names, b"n", None)?;
-    let methods = Vec::from_array(alloc, [first, second])?;
+    let methods = methods(alloc, names)?;
     Ok(Class {
         name,
         parent: Some(parent),
         interfaces: Items::new(alloc),
         flags: 0,
         fields: Items::from_vec(fields),
-        methods: Items::from_vec(methods),
+        methods,
     })
 }
 
