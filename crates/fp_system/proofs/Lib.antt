@@ -1,5 +1,6 @@
 mod BuildLemmas
 mod JavaCellLemmas
+mod LengthLemmas
 mod MakeLemmas
 mod MethodCellLemmas
 mod RootLemmas

@@ -21,7 +21,7 @@ use Rattle.fp_model.specs.ClassSet.{fields_of, methods_of}
 use Rattle.fp_cells.specs.declared.kind.Entity.TheVariants.{Class as OfClass, Field as OfField, Method as OfMethod}
 use Rattle.fp_system.specs.Java.{arguments, class_cells, gives_reference, has_code, java_cells, is_concrete, is_no_interface, method_cells, has_text, is_shown, shown_flags, shown_from, shows}
 use Rattle.fp_system.specs.Shows.{AreEntitiesOf, HasFound, KnowsParts, cell_text, is_marked, marked_flags, marked_from}
-use Rattle.fp_system.specs.Texts.{part_before}
+use Rattle.fp_system.specs.Texts.{AreWithin, part_before}
 use Rattle.fp_system.proofs.JavaCellLemmas.{false-if_not, or-both}
 
 part-of_kind : (k : KindId) → part_before (kind_text k) ≡ kind_text k
@@ -74,6 +74,12 @@ module _ (set : SetView) (items parts : List (List ℕ)) (known : KnowsParts ite
       let other : bytes_eq item (cell_text set the_cell) ≡ false = false-if_not (bytes_eq item (cell_text set the_cell)) (λ e.
       let same = ap (has_name items) ((bytes_eq-Decides item (cell_text set the_cell)).0 e) in cc) in
       sym (ap (λ c. b || c) other ∙ or-false b)
+
+-- no item names a cell whose entity has a longer text than each
+pub too_long : (set : SetView) (items : List (List ℕ)) (most : ℕ) (kind : KindId) (entity : Entity) → AreWithin most items → most < length (entity_text set entity) → has_name items (cell_text set (record { kind = kind; entity = entity; bits = 0 })) ≡ false
+too_long set items most kind entity within long =
+    let whole = length-append (kind_text kind) (61 ∷ entity_text set entity) in
+    false-if_not (has_name items (kind_text kind ++ (61 ∷ entity_text set entity))) (λ there. absurd (omega (arith, within (kind_text kind ++ (61 ∷ entity_text set entity)) there, whole, long)))
 
 -- ---- shown is marked by the items
 

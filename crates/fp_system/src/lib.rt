@@ -8,6 +8,7 @@ mod declared;
 mod evaluate;
 mod fault;
 mod fixed;
+mod lengths;
 mod limits;
 mod roots;
 mod rows;

@@ -8,7 +8,8 @@ ghost use Rattle.fp_cells.specs.Entities.{entity_text};
 ghost use Rattle.fp_system.specs.Java.{has_code, reach_cells};
 ghost use Rattle.fp_system.specs.Roots.{FindsRoots, HasEntities};
 
-use crate::texts::{add_text, index_texts};
+use crate::lengths::is_longer;
+use crate::texts::{Wanted, add_text};
 use fp_base::Names;
 use fp_cells::{Entity, append_entity};
 use fp_model::{ClassSet, Method, MethodId};
@@ -21,13 +22,13 @@ pub fn find_roots(alloc: Global, set: &ClassSet, roots: &[String]) -> Result<Nam
     if roots.is_empty() {
         return Ok(Names::new(alloc));
     }
-    let wanted = index_texts(alloc, roots)?;
+    let wanted = Wanted::index(alloc, roots)?;
     find_methods(alloc, set, &wanted)
 }
 
 // Walks over the methods once, and looks up each that has code by its text.
-fn find_methods(alloc: Global, set: &ClassSet, wanted: &Names) -> Result<Names, AllocError>
-    ensures { IfOk result (λ found. HasEntities set.now wanted.now found (reach_cells set.now.classes)) }
+fn find_methods(alloc: Global, set: &ClassSet, wanted: &Wanted) -> Result<Names, AllocError>
+    ensures { IfOk result (λ found. HasEntities set.now wanted.now.texts found (reach_cells set.now.classes)) }
 {
     let (_, _, methods) = set.counts();
     let mut found = Names::new(alloc);
@@ -45,20 +46,23 @@ fn note_method(
     set: &ClassSet,
     id: MethodId,
     method: &Method,
-    wanted: &Names,
+    wanted: &Wanted,
     text: &mut Vec<u8>,
     found: &mut Names,
 ) -> Result<(), AllocError>
     requires { id < length (methods_of set.now.classes) }
-    ensures { OnOk result ((root : List ℕ) → has_name wanted.now root ≡ true
+    ensures { OnOk result ((root : List ℕ) → has_name wanted.now.texts root ≡ true
         → has_name found.new root ≡ (has_name found.old root || (has_code method.now && bytes_eq root (entity_text set.now (Entity.Method id))))) }
 {
     if method.code.is_none() {
         return Ok(());
     }
+    if is_longer(set, Entity::Method(id), wanted.longest) {
+        return Ok(());
+    }
     text.clear();
     append_entity(set, Entity::Method(id), text)?;
-    if wanted.find(text.as_slice()).is_none() {
+    if wanted.texts.find(text.as_slice()).is_none() {
         return Ok(());
     }
     add_text(alloc, text.as_slice(), found)?;
