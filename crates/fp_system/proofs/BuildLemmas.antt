@@ -1,5 +1,5 @@
 -- Why the system that is built is that of the set and the words.
-use Rattle.std.proofs.Common.{◌≡◌, ℕ, Bool, true, false, cond, ◌||◌, zero, suc, List, [], ◌∷◌, None, Some, slice_get, codes, refl, sym, ap, ◌∙◌}
+use Rattle.std.proofs.Common.{◌≡◌, ℕ, Bool, true, false, cond, ◌||◌, zero, suc, List, [], ◌∷◌, Option, None, Some, slice_get, codes, refl, sym, ap, ◌∙◌}
 use Rattle.std.proofs.lemmas.Slice.Eq.{bytes_eq-Decides}
 use Rattle.std.specs.List.{list_any}
 use Rattle.std.specs.Str.{bytes_eq}
@@ -15,8 +15,8 @@ use Rattle.fp_system.specs.declared.declared.ClassTask.{ClassTask}
 use Rattle.fp_system.specs.declared.fault.SystemFault.{SystemFault}
 use Rattle.fp_system.specs.declared.fault.SystemFault.TheVariants as fault
 use Rattle.fp_system.specs.ClassEquations.{class_tasks}
-use Rattle.fp_system.specs.Faults.{TellsAnalysis, TellsItem, TellsLimit, TellsSystemRefusal}
-use Rattle.fp_system.specs.Java.{UnknownAnalysis, UnknownItem, equations_of, first_failing, fixed_words, has_text, is_analysis, is_item, is_kind_text, java_cells, java_equations, kinds, places_refusal, selected_tasks, shown_flags, shown_from, shows, system_refusal}
+use Rattle.fp_system.specs.Faults.{TellsAnalysis, TellsItem, TellsLimit, TellsRoot, TellsSystemRefusal}
+use Rattle.fp_system.specs.Java.{SystemRefusal, UnknownAnalysis, UnknownItem, UnknownRoot, equations_of, first_failing, fixed_words, has_text, is_analysis, is_item, is_kind_text, is_root, java_cells, java_equations, kinds, places_refusal, selected_tasks, shown_flags, shown_from, shows, system_refusal}
 use Rattle.fp_system.specs.Shows.{FindsItems, HasFound, cell_text, marked_flags, marked_from}
 use Rattle.fp_system.specs.Starts.{start_words}
 use Rattle.fp_system.proofs.JavaCellLemmas.{false-if_not}
@@ -54,7 +54,7 @@ equations_are set analyses show rows fixed shown tasks starts flags =
 
 -- ---- the items that name nothing
 
-first_failing-same : (f g : List ℕ → Bool) (show : List (List ℕ)) → ((item : List ℕ) → has_text show item ≡ true → f item ≡ g item) → first_failing f show ≡ first_failing g show
+pub first_failing-same : (f g : List ℕ → Bool) (show : List (List ℕ)) → ((item : List ℕ) → has_text show item ≡ true → f item ≡ g item) → first_failing f show ≡ first_failing g show
 first_failing-same f g [] h = refl
 first_failing-same f g (item ∷ show) h =
     let own : bytes_eq item item ≡ true = (bytes_eq-Decides item item).1 refl in
@@ -97,34 +97,63 @@ items_same set cells items found show is looks noted =
 
 -- ---- the refusals
 
-pub tells_analysis : (set : SetView) (analyses show : List (List ℕ)) (f : SystemFault) → TellsAnalysis (first_failing is_analysis analyses) f → TellsSystemRefusal (system_refusal set analyses show) f
-unfolding system_refusal
-tells_analysis set analyses show (fault.Analysis text) h = ap (λ o. option_or (option_map UnknownAnalysis o) (option_or (option_map UnknownItem (first_failing (is_item set) show)) (places_refusal (total_places (java_cells set.classes))))) h
-tells_analysis set analyses show (fault.Root text) h = h
-tells_analysis set analyses show (fault.Show item) h = absurd h
-tells_analysis set analyses show (fault.Limit which bound) h = absurd h
-tells_analysis set analyses show fault.Memory h = tt
+-- the first of the refusals that there are
+abbrev first_of : (analysis root item : Option (List ℕ)) → Option SystemRefusal → Option SystemRefusal
+first_of analysis root item places = option_or (option_map UnknownAnalysis analysis) (option_or (option_map UnknownRoot root) (option_or (option_map UnknownItem item) places))
 
-after_analyses : (set : SetView) (analyses show : List (List ℕ)) → first_failing is_analysis analyses ≡ None → system_refusal set analyses show ≡ option_or (option_map UnknownItem (first_failing (is_item set) show)) (places_refusal (total_places (java_cells set.classes)))
-unfolding system_refusal
-after_analyses set analyses show h = ap (λ o. option_or (option_map UnknownAnalysis o) (option_or (option_map UnknownItem (first_failing (is_item set) show)) (places_refusal (total_places (java_cells set.classes))))) h
+module _ (set : SetView) (analyses roots show : List (List ℕ)) where
+  abbrev analysis : Option (List ℕ)
+  analysis = first_failing is_analysis analyses
 
-after_items : (set : SetView) (analyses show : List (List ℕ)) → first_failing is_analysis analyses ≡ None → first_failing (is_item set) show ≡ None → system_refusal set analyses show ≡ places_refusal (total_places (java_cells set.classes))
-after_items set analyses show h k = after_analyses set analyses show h ∙ ap (λ o. option_or (option_map UnknownItem o) (places_refusal (total_places (java_cells set.classes)))) k
+  abbrev root : Option (List ℕ)
+  root = first_failing (is_root set) roots
 
-pub tells_item : (set : SetView) (analyses show : List (List ℕ)) (f : SystemFault) → first_failing is_analysis analyses ≡ None → TellsItem (first_failing (is_item set) show) f → TellsSystemRefusal (system_refusal set analyses show) f
-tells_item set analyses show (fault.Analysis text) none h = absurd h
-tells_item set analyses show (fault.Root text) none h = h
-tells_item set analyses show (fault.Show item) none h = after_analyses set analyses show none ∙ ap (λ o. option_or (option_map UnknownItem o) (places_refusal (total_places (java_cells set.classes)))) h
-tells_item set analyses show (fault.Limit which bound) none h = absurd h
-tells_item set analyses show fault.Memory none h = tt
+  abbrev item : Option (List ℕ)
+  item = first_failing (is_item set) show
 
-pub tells_limit : (set : SetView) (analyses show : List (List ℕ)) (f : SystemFault) → first_failing is_analysis analyses ≡ None → first_failing (is_item set) show ≡ None → TellsLimit (places_refusal (total_places (java_cells set.classes))) f → TellsSystemRefusal (system_refusal set analyses show) f
-tells_limit set analyses show (fault.Analysis text) none known h = absurd h
-tells_limit set analyses show (fault.Root text) none known h = h
-tells_limit set analyses show (fault.Show item) none known h = absurd h
-tells_limit set analyses show (fault.Limit which bound) none known h = (after_items set analyses show none known ∙ h.0, h.1, h.2)
-tells_limit set analyses show fault.Memory none known h = tt
+  abbrev places : Option SystemRefusal
+  places = places_refusal (total_places (java_cells set.classes))
 
-pub none_refused : (set : SetView) (analyses show : List (List ℕ)) → first_failing is_analysis analyses ≡ None → first_failing (is_item set) show ≡ None → places_refusal (total_places (java_cells set.classes)) ≡ None → system_refusal set analyses show ≡ None
-none_refused set analyses show none known few = after_items set analyses show none known ∙ few
+  opened : system_refusal set analyses roots show ≡ first_of analysis root item places
+  unfolding system_refusal
+  opened = refl
+
+  after_analyses : analysis ≡ None → system_refusal set analyses roots show ≡ first_of None root item places
+  after_analyses h = opened ∙ ap (λ o. first_of o root item places) h
+
+  after_roots : analysis ≡ None → root ≡ None → system_refusal set analyses roots show ≡ first_of None None item places
+  after_roots h k = after_analyses h ∙ ap (λ o. first_of None o item places) k
+
+  after_items : analysis ≡ None → root ≡ None → item ≡ None → system_refusal set analyses roots show ≡ places
+  after_items h k l = after_roots h k ∙ ap (λ o. first_of None None o places) l
+
+  pub tells_analysis : (f : SystemFault) → TellsAnalysis analysis f → TellsSystemRefusal (system_refusal set analyses roots show) f
+  tells_analysis (fault.Analysis text) h = opened ∙ ap (λ o. first_of o root item places) h
+  tells_analysis (fault.Root text) h = absurd h
+  tells_analysis (fault.Show text) h = absurd h
+  tells_analysis (fault.Limit which bound) h = absurd h
+  tells_analysis fault.Memory h = tt
+
+  pub tells_root : (f : SystemFault) → analysis ≡ None → TellsRoot root f → TellsSystemRefusal (system_refusal set analyses roots show) f
+  tells_root (fault.Analysis text) none h = absurd h
+  tells_root (fault.Root text) none h = after_analyses none ∙ ap (λ o. first_of None o item places) h
+  tells_root (fault.Show text) none h = absurd h
+  tells_root (fault.Limit which bound) none h = absurd h
+  tells_root fault.Memory none h = tt
+
+  pub tells_item : (f : SystemFault) → analysis ≡ None → root ≡ None → TellsItem item f → TellsSystemRefusal (system_refusal set analyses roots show) f
+  tells_item (fault.Analysis text) none rooted h = absurd h
+  tells_item (fault.Root text) none rooted h = absurd h
+  tells_item (fault.Show text) none rooted h = after_roots none rooted ∙ ap (λ o. first_of None None o places) h
+  tells_item (fault.Limit which bound) none rooted h = absurd h
+  tells_item fault.Memory none rooted h = tt
+
+  pub tells_limit : (f : SystemFault) → analysis ≡ None → root ≡ None → item ≡ None → TellsLimit places f → TellsSystemRefusal (system_refusal set analyses roots show) f
+  tells_limit (fault.Analysis text) none rooted known h = absurd h
+  tells_limit (fault.Root text) none rooted known h = absurd h
+  tells_limit (fault.Show text) none rooted known h = absurd h
+  tells_limit (fault.Limit which bound) none rooted known h = (after_items none rooted known ∙ h.0, h.1, h.2)
+  tells_limit fault.Memory none rooted known h = tt
+
+  pub none_refused : analysis ≡ None → root ≡ None → item ≡ None → places ≡ None → system_refusal set analyses roots show ≡ None
+  none_refused none rooted known few = after_items none rooted known ∙ few

@@ -1,5 +1,6 @@
 -- The cells of a set, one after another.
-use Rattle.std.proofs.Common.{◌≡◌, ◌==◌, ℕ, zero, suc, ◌+◌, ◌≤◌, ◌<◌, Bool, true, false, cond, ◌&&◌, ◌||◌, List, [], ◌∷◌, ◌++◌, Some, length, map, take, slice_get, refl, sym, ap, ◌∙◌, arith, rules, take_all, append-nil, append_assoc}
+use Rattle.std.proofs.Common.{◌≡◌, ◌==◌, ℕ, zero, suc, ◌+◌, ◌≤◌, ◌<◌, Bool, true, false, cond, ◌&&◌, ◌||◌, List, [], ◌∷◌, ◌++◌, Some, length, map, take, slice_get, refl, sym, ap, subst, ◌∙◌, arith, rules, take_all, append-nil, append_assoc}
+use denote.Enum.Bare.{same_true}
 use Rattle.std.proofs.lemmas.List.{take_more}
 use Rattle.std.proofs.lemmas.List.Folds.{list_any-append}
 use Rattle.std.proofs.lemmas.List.FromFn.{map-range_with_len_more}
@@ -10,11 +11,12 @@ use Rattle.fp_model.specs.declared.class.Class.{Class}
 use Rattle.fp_cells.specs.declared.kind.KindId.{KindId}
 use Rattle.fp_cells.specs.declared.kind.Entity.{Entity}
 use Rattle.fp_cells.specs.declared.kind.Entity.TheVariants.{Class as OfClass, Field as OfField}
+use Rattle.fp_cells.specs.contracts.kind.KindId.{the_type}
 use Rattle.fp_cells.specs.contracts.kind.KindIdPartialEq.TheImpl.{ghosts as kinds}
 use Rattle.fp_cells.specs.contracts.kind.EntityPartialEq.TheImpl.{ghosts as entities}
 use Rattle.fp_cells.specs.Cells.{Cell, has_cell, is_cell_of}
 use Rattle.fp_system.specs.Java.{class_cells, field_cells, lacks}
-use Rattle.fp_system.specs.Kinds.{has_kind}
+use Rattle.fp_system.specs.Kinds.{AreBefore, rank}
 
 pub and-false : (a b : Bool) → b ≡ false → (a && b) ≡ false
 and-false true b h = h
@@ -32,19 +34,33 @@ or-parts : (a b : Bool) → (a || b) ≡ false → (a ≡ false) × (b ≡ false
 or-parts true b h = cc
 or-parts false b h = (refl, h)
 
--- what has no cell of the kind has none of the kind and an entity
-pub has_kind-has_cell : (kind : KindId) (entity : Entity) (cells : List Cell) → has_kind kind cells ≡ false → has_cell cells kind entity ≡ false
-has_kind-has_cell kind entity [] h = refl
-has_kind-has_cell kind entity (c ∷ cells) h =
-    let parts = or-parts (kinds.eq kind c.kind) (has_kind kind cells) h in
-    or-both (is_cell_of kind entity c) (has_cell cells kind entity) (ap (λ b. b && entities.eq entity c.entity) parts.0) (has_kind-has_cell kind entity cells parts.1)
+-- ---- the order of the kinds
 
-has_kind-append : (kind : KindId) (xs ys : List Cell) → has_kind kind xs ≡ false → has_kind kind ys ≡ false → has_kind kind (xs ++ ys) ≡ false
-has_kind-append kind xs ys h k = list_any-append (λ cell. kinds.eq kind cell.kind) xs ys ∙ or-both (has_kind kind xs) (has_kind kind ys) h k
+same_kind : (a b : KindId) → kinds.eq a b ≡ true → a ≡ b
+same_kind a b h = same_true the_type (search rules) a b h
 
-absent_in_both : (kind : KindId) (entity : Entity) (xs ys : List Cell) → has_kind kind xs ≡ false → has_cell ys kind entity ≡ false → has_cell (xs ++ ys) kind entity ≡ false
+pub before-more : (n m : ℕ) (cells : List Cell) → n ≤ m → AreBefore n cells → AreBefore m cells
+before-more n m [] le h = tt
+before-more n m (c ∷ cells) le h = (omega (arith, h.0), before-more n m cells le h.1)
+
+pub before-append : (n : ℕ) (xs ys : List Cell) → AreBefore n xs → AreBefore n ys → AreBefore n (xs ++ ys)
+before-append n [] ys h k = k
+before-append n (c ∷ xs) ys h k = (h.0, before-append n xs ys h.1 k)
+
+-- none of the cells is of the kind
+pub before-absent : (kind : KindId) (entity : Entity) (cells : List Cell) → AreBefore (rank kind) cells → has_cell cells kind entity ≡ false
+before-absent kind entity [] h = refl
+before-absent kind entity (c ∷ cells) h =
+    let other : kinds.eq kind c.kind ≡ false = false-if_not (kinds.eq kind c.kind) (λ e. let same = ap rank (same_kind kind c.kind e) in absurd (omega (arith, h.0, same))) in
+    or-both (is_cell_of kind entity c) (has_cell cells kind entity) (ap (λ b. b && entities.eq entity c.entity) other) (before-absent kind entity cells h.1)
+
+pub absent_in_both : (kind : KindId) (entity : Entity) (xs ys : List Cell) → AreBefore (rank kind) xs → has_cell ys kind entity ≡ false → has_cell (xs ++ ys) kind entity ≡ false
 absent_in_both kind entity xs ys h k =
-    list_any-append (is_cell_of kind entity) xs ys ∙ or-both (has_cell xs kind entity) (has_cell ys kind entity) (has_kind-has_cell kind entity xs h) k
+    list_any-append (is_cell_of kind entity) xs ys ∙ or-both (has_cell xs kind entity) (has_cell ys kind entity) (before-absent kind entity xs h) k
+
+-- the cells of a kind come before those of the next one
+pub order_kept : (kind : KindId) (old now more : List Cell) → now ≡ old ++ more → AreBefore (rank kind) old → AreBefore (rank kind + 1) more → AreBefore (rank kind + 1) now
+order_kept kind old now more is h k = subst (AreBefore (rank kind + 1)) (sym is) (before-append (rank kind + 1) old more (before-more (rank kind) (rank kind + 1) old (omega arith) h) k)
 
 -- ---- a cell for each class
 
@@ -73,7 +89,7 @@ class_cells-push k bits test (d ∷ classes) first c =
     ap (λ v. own ++ v) (class_cells-push k bits test classes (first + 1) c ∙ ap (λ n. class_cells k bits test (first + 1) classes ++ cond (test c) (record { kind = k; entity = OfClass n; bits = bits } ∷ []) []) along)
     ∙ sym (append_assoc own (class_cells k bits test (first + 1) classes) (cond (test c) (record { kind = k; entity = OfClass (first + length (d ∷ classes)); bits = bits } ∷ []) []))
 
-length-take : {A : Type 0} (i : ℕ) (xs : List A) → i ≤ length xs → length (take i xs) ≡ i
+pub length-take : {A : Type 0} (i : ℕ) (xs : List A) → i ≤ length xs → length (take i xs) ≡ i
 length-take zero xs h = refl
 length-take (suc i) [] h = absurd (omega arith)
 length-take (suc i) (x ∷ xs) h = ap suc (length-take i xs (omega arith))
@@ -82,7 +98,7 @@ module _ (k : KindId) (bits : ℕ) (test : Class → Bool) (classes : List Class
   within : i < length classes
   within = slice_get_within classes i c at
 
-  pub class_absent : has_kind k old ≡ false → has_cell now k (OfClass i) ≡ false
+  pub class_absent : AreBefore (rank k) old → has_cell now k (OfClass i) ≡ false
   class_absent new =
       ap (λ v. has_cell v k (OfClass i)) is
       ∙ absent_in_both k (OfClass i) old (class_cells k bits test 0 (take i classes)) new
@@ -113,7 +129,7 @@ fields_below k bits first (suc n) id h =
     or-both (kinds.eq k k && entities.eq (OfField id) (OfField first)) _ (and-false (kinds.eq k k) (entities.eq (OfField id) (OfField first)) (false-if_not (entities.eq (OfField id) (OfField first)) (λ e. let same = same_field id first e in absurd (omega arith))))
     (fields_below k bits (first + 1) n id (omega arith))
 
-pub field_absent : (k : KindId) (bits i : ℕ) (old now : List Cell) → now ≡ old ++ fields_upto k bits i → has_kind k old ≡ false → has_cell now k (OfField i) ≡ false
+pub field_absent : (k : KindId) (bits i : ℕ) (old now : List Cell) → now ≡ old ++ fields_upto k bits i → AreBefore (rank k) old → has_cell now k (OfField i) ≡ false
 field_absent k bits i old now is new =
     ap (λ v. has_cell v k (OfField i)) is ∙ absent_in_both k (OfField i) old (fields_upto k bits i) new (fields_below k bits 0 i i (omega arith))
 
@@ -128,27 +144,25 @@ classes_done k bits test classes i old now past is = is ∙ ap (λ v. old ++ cla
 
 -- ---- all cells
 
--- the cells of a kind have no other one
-pub classes_of_kind : (kind k : KindId) (bits : ℕ) (test : Class → Bool) (first : ℕ) (classes : List Class) → kinds.eq kind k ≡ false → has_kind kind (class_cells k bits test first classes) ≡ false
-classes_of_kind kind k bits test first [] other = refl
-classes_of_kind kind k bits test first (c ∷ classes) other =
-    let rest = classes_of_kind kind k bits test (first + 1) classes other in
-    (elim (test c) as (λ b. has_kind kind (cond b (record { kind = k; entity = OfClass first; bits = bits } ∷ []) [] ++ class_cells k bits test (first + 1) classes) ≡ false) [
-      | true ↦ or-both (kinds.eq kind k) _ other rest
+classes_before : (k : KindId) (bits : ℕ) (test : Class → Bool) (first : ℕ) (classes : List Class) → AreBefore (rank k + 1) (class_cells k bits test first classes)
+classes_before k bits test first [] = tt
+classes_before k bits test first (c ∷ classes) =
+    let rest = classes_before k bits test (first + 1) classes in
+    let own : rank k < rank k + 1 = omega arith in
+    (elim (test c) as (λ b. AreBefore (rank k + 1) (cond b (record { kind = k; entity = OfClass first; bits = bits } ∷ []) [] ++ class_cells k bits test (first + 1) classes)) [
+      | true ↦ (own, rest)
       | false ↦ rest
     ])
 
-fields_of_kind : (kind k : KindId) (bits first n : ℕ) → kinds.eq kind k ≡ false → has_kind kind (map (λ id. record { kind = k; entity = OfField id; bits = bits }) (range_with_len first n)) ≡ false
-fields_of_kind kind k bits first zero other = refl
-fields_of_kind kind k bits first (suc n) other = or-both (kinds.eq kind k) _ other (fields_of_kind kind k bits (first + 1) n other)
+fields_before : (k : KindId) (bits first n : ℕ) → AreBefore (rank k + 1) (map (λ id. record { kind = k; entity = OfField id; bits = bits }) (range_with_len first n))
+fields_before k bits first zero = tt
+fields_before k bits first (suc n) = (omega arith, fields_before k bits (first + 1) n)
 
-pub without_class_cells : (kind k : KindId) (bits : ℕ) (test : Class → Bool) (classes : List Class) (old now : List Cell) → now ≡ old ++ class_cells k bits test 0 classes → has_kind kind old ≡ false → kinds.eq kind k ≡ false → has_kind kind now ≡ false
-without_class_cells kind k bits test classes old now is h other =
-    ap (has_kind kind) is ∙ has_kind-append kind old (class_cells k bits test 0 classes) h (classes_of_kind kind k bits test 0 classes other)
+pub classes_order : (k : KindId) (bits : ℕ) (test : Class → Bool) (classes : List Class) (old now : List Cell) → now ≡ old ++ class_cells k bits test 0 classes → AreBefore (rank k) old → AreBefore (rank k + 1) now
+classes_order k bits test classes old now is h = order_kept k old now (class_cells k bits test 0 classes) is h (classes_before k bits test 0 classes)
 
-pub without_field_cells : (kind k : KindId) (bits : ℕ) (classes : List Class) (old now : List Cell) → now ≡ old ++ field_cells k bits classes → has_kind kind old ≡ false → kinds.eq kind k ≡ false → has_kind kind now ≡ false
-without_field_cells kind k bits classes old now is h other =
-    ap (has_kind kind) is ∙ has_kind-append kind old (field_cells k bits classes) h (fields_of_kind kind k bits 0 _ other)
+pub fields_order : (k : KindId) (bits : ℕ) (classes : List Class) (old now : List Cell) → now ≡ old ++ field_cells k bits classes → AreBefore (rank k) old → AreBefore (rank k + 1) now
+fields_order k bits classes old now is h = order_kept k old now (field_cells k bits classes) is h (fields_before k bits 0 _)
 
 -- every class lacks no flag at all
 pub class_cells-all : (k : KindId) (bits first : ℕ) (classes : List Class) → class_cells k bits (lacks 0) first classes ≡ class_cells k bits (λ c. true) first classes
@@ -158,7 +172,6 @@ class_cells-all k bits first (c ∷ classes) =
     ap (λ b. cond b (record { kind = k; entity = OfClass first; bits = bits } ∷ []) [] ++ class_cells k bits (lacks 0) (first + 1) classes) passes
     ∙ ap (λ v. (record { kind = k; entity = OfClass first; bits = bits } ∷ []) ++ v) (class_cells-all k bits (first + 1) classes)
 
-pub all_cells : (a b c d e : List Cell) (one two three four five : List Cell) → one ≡ [] ++ a → two ≡ one ++ b → three ≡ two ++ c → four ≡ three ++ d → five ≡ four ++ e → five ≡ a ++ (b ++ (c ++ (d ++ e)))
-all_cells a b c d e one two three four five h i j k l =
-    l ∙ ap (λ v. v ++ e) (k ∙ ap (λ v. v ++ d) (j ∙ ap (λ v. v ++ c) (i ∙ ap (λ v. v ++ b) h)))
-    ∙ append_assoc ((a ++ b) ++ c) d e ∙ append_assoc (a ++ b) c (d ++ e) ∙ append_assoc a b (c ++ (d ++ e))
+-- what two steps have added
+pub joined : (old now later x y : List Cell) → now ≡ old ++ x → later ≡ now ++ y → later ≡ old ++ (x ++ y)
+joined old now later x y h k = k ∙ ap (λ v. v ++ y) h ∙ append_assoc old x y

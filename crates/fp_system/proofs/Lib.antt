@@ -1,6 +1,9 @@
 mod BuildLemmas
 mod JavaCellLemmas
+mod LengthLemmas
 mod MakeLemmas
+mod MethodCellLemmas
+mod RootLemmas
 mod RowLemmas
 mod ShowLemmas
 mod StartLemmas

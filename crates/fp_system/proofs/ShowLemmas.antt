@@ -16,11 +16,12 @@ use Rattle.fp_cells.specs.declared.kind.Entity.{Entity}
 use Rattle.fp_cells.specs.Cells.{Cell, places_of, total_places}
 use Rattle.fp_cells.specs.Entities.{IsEntityOf, kind_text, entity_text}
 use Rattle.fp_model.specs.declared.class.Class.{Class}
-use Rattle.fp_model.specs.ClassSet.{fields_of}
-use Rattle.fp_cells.specs.declared.kind.Entity.TheVariants.{Class as OfClass, Field as OfField}
-use Rattle.fp_system.specs.Java.{class_cells, java_cells, is_concrete, is_no_interface, has_text, is_shown, shown_flags, shown_from, shows}
+use Rattle.fp_model.specs.declared.class.Method.{Method}
+use Rattle.fp_model.specs.ClassSet.{fields_of, methods_of}
+use Rattle.fp_cells.specs.declared.kind.Entity.TheVariants.{Class as OfClass, Field as OfField, Method as OfMethod}
+use Rattle.fp_system.specs.Java.{arguments, class_cells, gives_reference, has_code, java_cells, is_concrete, is_no_interface, method_cells, has_text, is_shown, shown_flags, shown_from, shows}
 use Rattle.fp_system.specs.Shows.{AreEntitiesOf, HasFound, KnowsParts, cell_text, is_marked, marked_flags, marked_from}
-use Rattle.fp_system.specs.Texts.{part_before}
+use Rattle.fp_system.specs.Texts.{AreWithin, part_before}
 use Rattle.fp_system.proofs.JavaCellLemmas.{false-if_not, or-both}
 
 part-of_kind : (k : KindId) → part_before (kind_text k) ≡ kind_text k
@@ -49,7 +50,7 @@ part-of_cell Leak e = refl
 part-of_cell Escape e = refl
 part-of_cell Purity e = refl
 
-or-false : (b : Bool) → (b || false) ≡ b
+pub or-false : (b : Bool) → (b || false) ≡ b
 or-false true = refl
 or-false false = refl
 
@@ -73,6 +74,12 @@ module _ (set : SetView) (items parts : List (List ℕ)) (known : KnowsParts ite
       let other : bytes_eq item (cell_text set the_cell) ≡ false = false-if_not (bytes_eq item (cell_text set the_cell)) (λ e.
       let same = ap (has_name items) ((bytes_eq-Decides item (cell_text set the_cell)).0 e) in cc) in
       sym (ap (λ c. b || c) other ∙ or-false b)
+
+-- no item names a cell whose entity has a longer text than each
+pub too_long : (set : SetView) (items : List (List ℕ)) (most : ℕ) (kind : KindId) (entity : Entity) → AreWithin most items → most < length (entity_text set entity) → has_name items (cell_text set (record { kind = kind; entity = entity; bits = 0 })) ≡ false
+too_long set items most kind entity within long =
+    let whole = length-append (kind_text kind) (61 ∷ entity_text set entity) in
+    false-if_not (has_name items (kind_text kind ++ (61 ∷ entity_text set entity))) (λ there. absurd (omega (arith, within (kind_text kind ++ (61 ∷ entity_text set entity)) there, whole, long)))
 
 -- ---- shown is marked by the items
 
@@ -213,15 +220,30 @@ field_entities : (set : SetView) (k : KindId) (bits first n : ℕ) → first + n
 field_entities set k bits first zero le = tt
 field_entities set k bits first (suc n) le = (omega arith, field_entities set k bits (first + 1) n (omega arith))
 
+method_entities : (set : SetView) (k : KindId) (bits : Method → ℕ) (test : Method → Bool) (first : ℕ) (methods : List Method) → first + length methods ≤ length (methods_of set.classes) → AreEntitiesOf set (method_cells k bits test first methods)
+method_entities set k bits test first [] le = tt
+method_entities set k bits test first (m ∷ methods) le =
+    let rest = method_entities set k bits test (first + 1) methods (omega arith) in
+    let lt : first < length (methods_of set.classes) = omega arith in
+    (elim (test m) as (λ b. AreEntitiesOf set (cond b (record { kind = k; entity = OfMethod first; bits = bits m } ∷ []) [] ++ method_cells k bits test (first + 1) methods)) [
+      | true ↦ (lt, rest)
+      | false ↦ rest
+    ])
+
 pub java_entities : (set : SetView) (cells : List Cell) → cells ≡ java_cells set.classes → AreEntitiesOf set cells
 java_entities set cells is =
     let whole : 0 + length set.classes ≤ length set.classes = omega arith in
+    let methods : 0 + length (methods_of set.classes) ≤ length (methods_of set.classes) = omega arith in
     subst (AreEntitiesOf set) (sym is)
     (entities-append set _ _ (class_entities set Declared 1 (λ c. true) 0 set.classes whole)
     (entities-append set _ _ (class_entities set Inst 1 is_concrete 0 set.classes whole)
+    (entities-append set _ _ (method_entities set Reach (λ m. 1) has_code 0 (methods_of set.classes) methods)
     (entities-append set _ _ (field_entities set Assign 1 0 (length (fields_of set.classes)) (omega arith))
     (entities-append set _ _ (class_entities set Immut 2 is_no_interface 0 set.classes whole)
-    (class_entities set Timmut 2 (λ c. true) 0 set.classes whole)))))
+    (entities-append set _ _ (class_entities set Timmut 2 (λ c. true) 0 set.classes whole)
+    (entities-append set _ _ (method_entities set Fresh (λ m. 1) gives_reference 0 (methods_of set.classes) methods)
+    (entities-append set _ _ (method_entities set Leak arguments (λ m. true) 0 (methods_of set.classes) methods)
+    (method_entities set Purity (λ m. arguments m + 2) (λ m. true) 0 (methods_of set.classes) methods)))))))))
 
 -- ---- the text of a cell
 

@@ -1,5 +1,5 @@
 -- Tables of texts, one text after another.
-use Rattle.std.proofs.Common.{◌≡◌, ℕ, ◌+◌, ◌<◌, Bool, true, false, ◌||◌, List, [], ◌∷◌, ◌++◌, length, take, drop, get_or, suc, cond, ◌==◌, ◌≤◌, refl, sym, ap, subst, ◌∙◌, add-one, append-nil, append_assoc, take_all}
+use Rattle.std.proofs.Common.{◌≡◌, ℕ, ◌+◌, ◌<◌, Bool, true, false, ◌||◌, List, [], ◌∷◌, ◌++◌, length, take, drop, get_or, suc, cond, ◌==◌, ◌≤◌, refl, sym, ap, subst, ◌∙◌, add-one, arith, append-nil, append_assoc, take_all}
 use Rattle.std.proofs.Math.Seq.{drop-cons}
 use Rattle.std.proofs.lemmas.List.{take_more, map-append, drop_all}
 use Rattle.std.proofs.lemmas.List.Folds.{list_any-append}
@@ -12,7 +12,7 @@ use Rattle.fp_base.specs.Names.{has_name, with_name}
 use Rattle.fp_base.proofs.NameLemmas.{has_name-with_name}
 use Rattle.fp_system.specs.Java.{has_text}
 use Rattle.fp_system.specs.Shows.{KnowsParts}
-use Rattle.fp_system.specs.Texts.{first_parts, part_before}
+use Rattle.fp_system.specs.Texts.{AreWithin, first_parts, part_before}
 
 same-bool : (b c : Bool) → (b ≡ true → c ≡ true) → (c ≡ true → b ≡ true) → b ≡ c
 same-bool true c h k = sym (h refl)
@@ -48,6 +48,25 @@ pub words_step : (words : List (String Global)) (i : ℕ) (word : String Global)
 words_step words i word names later text within is bytes added h =
     let step = has_texts-more names (texts (take i words)) (string_bytes word) h in
     subst (HasTexts later) (sym (words_more words i word within is)) (subst (λ v. HasTexts v (texts (take i words) ++ string_bytes word ∷ [])) (sym (added ∙ ap (with_name names) bytes)) step)
+
+or-cases : (a b : Bool) (P : Type 0) → (a ≡ true → P) → (b ≡ true → P) → (a || b) ≡ true → P
+or-cases true b P f g h = f refl
+or-cases false b P f g h = g h
+
+-- the longest of the texts so far
+pub longest_step : (words : List (String Global)) (i : ℕ) (word : String Global) (longest later : ℕ) (text : List ℕ) → i < length words → word ≡ get_or words i word → text ≡ string_bytes word → longest ≤ later → length text ≤ later →
+    ((t : List ℕ) → has_text (texts (take i words)) t ≡ true → length t ≤ longest) → (t : List ℕ) → has_text (texts (take (i + 1) words)) t ≡ true → length t ≤ later
+longest_step words i word longest later text within is bytes above fits h = λ t there.
+    let split = list_any-append (λ other. bytes_eq other t) (texts (take i words)) (string_bytes word ∷ []) in
+    let both : (has_text (texts (take i words)) t || bytes_eq (string_bytes word) t) ≡ true =
+        ap (λ b. has_text (texts (take i words)) t || b) (sym (or-false (bytes_eq (string_bytes word) t))) ∙ sym split ∙ ap (λ v. has_text v t) (sym (words_more words i word within is)) ∙ there in
+    or-cases (has_text (texts (take i words)) t) (bytes_eq (string_bytes word) t) (length t ≤ later)
+    (λ before. omega (arith, h t before, above))
+    (λ same. let long : length text ≡ length t = ap length (bytes ∙ (bytes_eq-Decides (string_bytes word) t).0 same) in omega (arith, long, fits)) both
+
+-- a table has the texts, so none of it is longer
+pub longest_known : (names all : List (List ℕ)) (longest : ℕ) → HasTexts names all → ((t : List ℕ) → has_text all t ≡ true → length t ≤ longest) → AreWithin longest names
+longest_known names all longest same h text there = h text (sym (same text) ∙ there)
 
 pub parts_step : (words : List (String Global)) (i : ℕ) (word : String Global) (names later : List (List ℕ)) (text part : List ℕ) → i < length words → word ≡ get_or words i word → text ≡ string_bytes word → part ≡ part_before text → later ≡ with_name names part →
     HasTexts names (first_parts (texts (take i words))) → HasTexts later (first_parts (texts (take (i + 1) words)))

@@ -3,13 +3,13 @@ use Rattle.std.specs.Prelude.{◌≡◌, ℕ, List, Option, Some, string_bytes}
 use Rattle.fp_model.specs.declared.limit.LimitName.TheVariants as limit
 use Rattle.fp_system.specs.declared.fault.SystemFault.{SystemFault}
 use Rattle.fp_system.specs.declared.fault.SystemFault.TheVariants as fault
-use Rattle.fp_system.specs.Java.{SystemRefusal, UnknownAnalysis, UnknownItem, TooManyPlaces}
+use Rattle.fp_system.specs.Java.{SystemRefusal, UnknownAnalysis, UnknownRoot, UnknownItem, TooManyPlaces}
 use Rattle.fp_system.specs.Limits.{most_places}
 
--- the fault tells why there is no system; roots are refused nowhere yet, and want of memory tells nothing
+-- the fault tells why there is no system; want of memory tells nothing
 abbrev pub TellsSystemRefusal : Option SystemRefusal → SystemFault → Type 0
 TellsSystemRefusal refusal (fault.Analysis name) = refusal ≡ Some (UnknownAnalysis (string_bytes name))
-TellsSystemRefusal refusal (fault.Root name) = ⊥
+TellsSystemRefusal refusal (fault.Root root) = refusal ≡ Some (UnknownRoot (string_bytes root))
 TellsSystemRefusal refusal (fault.Show item) = refusal ≡ Some (UnknownItem (string_bytes item))
 TellsSystemRefusal refusal (fault.Limit name bound) = (refusal ≡ Some TooManyPlaces) × (name ≡ limit.Places) × (bound ≡ most_places)
 TellsSystemRefusal refusal fault.Memory = Unit {0}
@@ -19,6 +19,12 @@ abbrev pub TellsAnalysis : Option (List ℕ) → SystemFault → Type 0
 TellsAnalysis first (fault.Analysis name) = first ≡ Some (string_bytes name)
 TellsAnalysis first fault.Memory = Unit {0}
 TellsAnalysis first _ = ⊥
+
+-- the fault tells the first root that is no method with code
+abbrev pub TellsRoot : Option (List ℕ) → SystemFault → Type 0
+TellsRoot first (fault.Root root) = first ≡ Some (string_bytes root)
+TellsRoot first fault.Memory = Unit {0}
+TellsRoot first _ = ⊥
 
 abbrev pub TellsItem : Option (List ℕ) → SystemFault → Type 0
 TellsItem first (fault.Show item) = first ≡ Some (string_bytes item)

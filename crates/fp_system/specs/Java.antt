@@ -1,10 +1,14 @@
 -- The system of a run over a set of classes: its cells, the equations of the selected analyses, and what is shown.
-use Rattle.std.specs.Prelude.{ℕ, ◌+◌, ◌-◌, ◌*◌, ◌^◌, ◌==◌, nat_lt, nat_le, Bool, true, ◌||◌, List, [], ◌∷◌, ◌++◌, length, map, replicate, codes, bit_and, slice_index, Option, Some, None, if◌then◌else◌}
+use Rattle.std.specs.Prelude.{ℕ, ◌+◌, ◌-◌, ◌*◌, ◌^◌, ◌==◌, nat_lt, nat_le, Bool, true, false, ◌&&◌, ◌||◌, List, [], ◌∷◌, ◌++◌, length, map, replicate, codes, bit_and, slice_index, is_some, Option, Some, None, if◌then◌else◌}
 use Rattle.std.specs.List.{list_any, flat_map, range_with_len}
 use Rattle.std.specs.Option.{option_or, option_map}
 use Rattle.std.specs.Str.{bytes_eq}
 use Rattle.fp_model.specs.declared.class.Class.{Class}
-use Rattle.fp_model.specs.ClassSet.{SetView, fields_of}
+use Rattle.fp_model.specs.declared.class.Method.{Method}
+use Rattle.fp_model.specs.declared.kind.Kind.{Kind}
+use Rattle.fp_model.specs.declared.kind.Kind.TheVariants as type
+use Rattle.fp_model.specs.ClassSet.{SetView, fields_of, methods_of}
+use Rattle.fp_model.specs.Flags.{is_static}
 use Rattle.fp_cells.specs.declared.kind.KindId.{KindId}
 use Rattle.fp_cells.specs.declared.kind.KindId.TheVariants as kind
 use Rattle.fp_cells.specs.declared.kind.Entity.TheVariants as entity
@@ -63,14 +67,46 @@ class_cells k bits test first (c ∷ classes) =
 abbrev pub field_cells : KindId → ℕ → List Class → List Cell
 field_cells k bits classes = map (λ id. record { kind = k; entity = entity.Field id; bits = bits }) (range_with_len 0 (length (fields_of classes)))
 
--- the cells of a set, kind by kind; the kinds of methods and sites have none so far
+-- a cell of the kind for each method that passes the test, in the order of the methods, the first of which is `first`
+abbrev pub method_cells : KindId → (Method → ℕ) → (Method → Bool) → (first : ℕ) → List Method → List Cell
+method_cells k bits test first [] = []
+method_cells k bits test first (m ∷ methods) =
+    (if test m then record { kind = k; entity = entity.Method first; bits = bits m } ∷ [] else []) ++ method_cells k bits test (first + 1) methods
+
+-- it has code
+abbrev pub has_code : Method → Bool
+has_code m = is_some m.code
+
+-- a type whose values are references
+abbrev pub is_reference : Option Kind → Bool
+is_reference (Some (type.Class name)) = true
+is_reference (Some (type.Array dims element)) = true
+is_reference _ = false
+
+-- it has code, and returns a reference
+abbrev pub gives_reference : Method → Bool
+gives_reference m = has_code m && is_reference m.kinds.result
+
+-- how many arguments it has, the receiver of an instance method among them
+abbrev pub arguments : Method → ℕ
+arguments m = length m.kinds.args + (if is_static m.flags then 0 else 1)
+
+-- the cells of the methods that can be called
+abbrev pub reach_cells : List Class → List Cell
+reach_cells classes = method_cells kind.Reach (λ m. 1) has_code 0 (methods_of classes)
+
+-- the cells of a set, kind by kind; the kinds of sites have none so far
 abbrev pub java_cells : List Class → List Cell
 java_cells classes =
     class_cells kind.Declared 1 (λ c. true) 0 classes
     ++ (class_cells kind.Inst 1 is_concrete 0 classes
+    ++ (reach_cells classes
     ++ (field_cells kind.Assign 1 classes
     ++ (class_cells kind.Immut 2 is_no_interface 0 classes
-    ++ class_cells kind.Timmut 2 (λ c. true) 0 classes)))
+    ++ (class_cells kind.Timmut 2 (λ c. true) 0 classes
+    ++ (method_cells kind.Fresh (λ m. 1) gives_reference 0 (methods_of classes)
+    ++ (method_cells kind.Leak arguments (λ m. true) 0 (methods_of classes)
+    ++ method_cells kind.Purity (λ m. arguments m + 2) (λ m. true) 0 (methods_of classes))))))))
 
 -- the word of a place of a cell that has so many bits from that place on, with every bit set
 abbrev pub full_word : ℕ → ℕ
@@ -133,14 +169,20 @@ is_kind_text text = list_any (λ k. bytes_eq text (kind_text k)) kinds
 abbrev pub is_item : SetView → List ℕ → Bool
 is_item set item = is_kind_text item || list_any (λ cell. shows set cell item) (java_cells set.classes)
 
+-- the text names a method with code
+abbrev pub is_root : SetView → List ℕ → Bool
+is_root set text = list_any (λ cell. bytes_eq text (entity_text set cell.entity)) (reach_cells set.classes)
+
 -- the first text that fails a test
 abbrev pub first_failing : (List ℕ → Bool) → List (List ℕ) → Option (List ℕ)
 first_failing test [] = None
 first_failing test (text ∷ texts) = if test text then first_failing test texts else Some text
 
--- why there is no system: an analysis that isn't there, a shown item that is neither a kind nor a cell, too many places
+-- why there is no system: an analysis that isn't there, a root that is no method with code, a shown item that is neither a kind
+-- nor a cell, too many places
 pub data SystemRefusal : Type 0 where
   UnknownAnalysis : List ℕ → SystemRefusal
+  UnknownRoot : List ℕ → SystemRefusal
   UnknownItem : List ℕ → SystemRefusal
   TooManyPlaces : SystemRefusal
 
@@ -149,8 +191,9 @@ abbrev pub places_refusal : ℕ → Option SystemRefusal
 places_refusal places = if nat_lt most_places places then Some TooManyPlaces else None
 
 -- the first of these
-unfoldable pub system_refusal : SetView → List (List ℕ) → List (List ℕ) → Option SystemRefusal
-system_refusal set analyses show =
+unfoldable pub system_refusal : SetView → (analyses roots show : List (List ℕ)) → Option SystemRefusal
+system_refusal set analyses roots show =
     option_or (option_map UnknownAnalysis (first_failing is_analysis analyses))
+    (option_or (option_map UnknownRoot (first_failing (is_root set) roots))
     (option_or (option_map UnknownItem (first_failing (is_item set) show))
-    (places_refusal (total_places (java_cells set.classes))))
+    (places_refusal (total_places (java_cells set.classes)))))

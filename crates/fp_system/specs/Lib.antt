@@ -3,6 +3,7 @@ pub mod Faults
 pub mod Java
 pub mod Kinds
 pub mod Limits
+pub mod Roots
 pub mod Rows
 pub mod Shows
 pub mod Starts

@@ -1,5 +1,6 @@
--- The parts of shown items.
-use Rattle.std.specs.Prelude.{ℕ, ◌==◌, List, [], ◌∷◌, map, if◌then◌else◌}
+-- The parts of shown items, and how long texts are.
+use Rattle.std.specs.Prelude.{◌≡◌, ℕ, ◌≤◌, ◌==◌, true, List, [], ◌∷◌, length, map, if◌then◌else◌}
+use Rattle.fp_base.specs.Names.{has_name}
 
 -- what stands before the first `=`, or all of the text
 abbrev pub part_before : List ℕ → List ℕ
@@ -8,3 +9,7 @@ part_before (byte ∷ rest) = if byte == 61 then [] else byte ∷ part_before re
 
 abbrev pub first_parts : List (List ℕ) → List (List ℕ)
 first_parts items = map part_before items
+
+-- none of the texts of a table is longer
+abbrev pub AreWithin : ℕ → List (List ℕ) → Type 0
+AreWithin most names = (text : List ℕ) → has_name names text ≡ true → length text ≤ most

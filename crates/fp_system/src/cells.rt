@@ -1,11 +1,12 @@
 //! The cells of a set of classes.
-ghost use Rattle.std.specs.Prelude.{◌≡◌, ◌+◌, ◌++◌, ◌∷◌, [], false, if◌then◌else◌, IfOk, OnOk};
+ghost use Rattle.std.specs.Prelude.{◌≡◌, ◌≤◌, ◌+◌, ◌++◌, ◌∷◌, [], false, if◌then◌else◌, IfOk, OnOk};
+ghost use Rattle.fp_model.specs.ClassSet.{methods_of};
 ghost use Rattle.fp_cells.specs.Cells.{has_cell, places_of};
-ghost use Rattle.fp_system.specs.Java.{class_cells, field_cells, java_cells, lacks};
-ghost use Rattle.fp_system.specs.Kinds.{has_kind};
+ghost use Rattle.fp_system.specs.Java.{arguments, class_cells, field_cells, is_reference, java_cells, lacks, method_cells};
+ghost use Rattle.fp_system.specs.Kinds.{AreBefore, method_bits, method_has, rank};
 
 use fp_cells::{Cells, Entity, KindId};
-use fp_model::{Class, ClassId, ClassSet};
+use fp_model::{Class, ClassId, ClassSet, Kind, Method, MethodId};
 use std::alloc::{AllocError, Global};
 
 /// The access flags of classes that have no instances of their own: ACC_INTERFACE and ACC_ABSTRACT (JVMS SE 21 section 4.1).
@@ -14,6 +15,12 @@ const NOT_CONCRETE: u16 = 0x0600;
 /// The access flag of interfaces: ACC_INTERFACE.
 const INTERFACE: u16 = 0x0200;
 
+/// The access flag of methods that have no receiver: ACC_STATIC (JVMS SE 21 section 4.6).
+const STATIC: u16 = 0x0008;
+
+/// The most parameters for which the bits of a method's cells have numbers. A class file has far fewer.
+const MOST_PARAMETERS: usize = 0xFFFF_0000;
+
 /// The cells of a set, kind by kind.
 pub fn make_cells(alloc: Global, set: &ClassSet) -> Result<Cells, AllocError>
     ensures { IfOk result (λ cells. cells ≡ java_cells set.now.classes) }
@@ -21,9 +28,13 @@ pub fn make_cells(alloc: Global, set: &ClassSet) -> Result<Cells, AllocError>
     let mut cells = Cells::new(alloc);
     add_class_cells(set, KindId::Declared, 1, 0, &mut cells)?;
     add_class_cells(set, KindId::Inst, 1, NOT_CONCRETE, &mut cells)?;
+    add_method_cells(set, KindId::Reach, &mut cells)?;
     add_field_cells(set, KindId::Assign, 1, &mut cells)?;
     add_class_cells(set, KindId::Immut, 2, INTERFACE, &mut cells)?;
     add_class_cells(set, KindId::Timmut, 2, 0, &mut cells)?;
+    add_method_cells(set, KindId::Fresh, &mut cells)?;
+    add_method_cells(set, KindId::Leak, &mut cells)?;
+    add_method_cells(set, KindId::Purity, &mut cells)?;
     Ok(cells)
 }
 
@@ -35,8 +46,9 @@ fn add_class_cells(
     without: u16,
     cells: &mut Cells,
 ) -> Result<(), AllocError>
-    requires { has_kind kind cells.old ≡ false }
-    ensures { OnOk result (cells.new ≡ cells.old ++ class_cells kind bits (lacks without) 0 set.now.classes) }
+    requires { AreBefore (rank kind) cells.old }
+    ensures added { OnOk result (cells.new ≡ cells.old ++ class_cells kind bits (lacks without) 0 set.now.classes) }
+    ensures order { OnOk result (AreBefore (rank kind + 1) cells.new) }
 {
     let (classes, _, _) = set.counts();
     for id in 0..classes {
@@ -71,14 +83,95 @@ fn add_field_cells(
     bits: u32,
     cells: &mut Cells,
 ) -> Result<(), AllocError>
-    requires { has_kind kind cells.old ≡ false }
-    ensures { OnOk result (cells.new ≡ cells.old ++ field_cells kind bits set.now.classes) }
+    requires { AreBefore (rank kind) cells.old }
+    ensures added { OnOk result (cells.new ≡ cells.old ++ field_cells kind bits set.now.classes) }
+    ensures order { OnOk result (AreBefore (rank kind + 1) cells.new) }
 {
     let (_, fields, _) = set.counts();
     for id in 0..fields {
         add_cell(kind, Entity::Field(id), bits, cells)?;
     }
     Ok(())
+}
+
+// Adds a cell of the kind for each method that has one.
+fn add_method_cells(set: &ClassSet, kind: KindId, cells: &mut Cells) -> Result<(), AllocError>
+    requires { AreBefore (rank kind) cells.old }
+    ensures added { OnOk result (cells.new
+        ≡ cells.old ++ method_cells kind (method_bits kind) (method_has kind) 0 (methods_of set.now.classes)) }
+    ensures order { OnOk result (AreBefore (rank kind + 1) cells.new) }
+{
+    let (_, _, methods) = set.counts();
+    for id in 0..methods {
+        let method = set.method(id);
+        add_method_cell(method, id, kind, cells)?;
+    }
+    Ok(())
+}
+
+fn add_method_cell(
+    method: &Method,
+    id: MethodId,
+    kind: KindId,
+    cells: &mut Cells,
+) -> Result<(), AllocError>
+    requires { has_cell cells.old kind (Entity.Method id) ≡ false }
+    ensures { OnOk result (cells.new ≡ cells.old
+        ++ (if method_has kind method.now then record { kind = kind; entity = Entity.Method id; bits = method_bits kind method.now } ∷ [] else [])) }
+{
+    if !has_method_cell(method, kind) {
+        return Ok(());
+    }
+    let bits = count_bits(method, kind)?;
+    add_cell(kind, Entity::Method(id), bits, cells)
+}
+
+// Whether the method has a cell of the kind.
+fn has_method_cell(method: &Method, kind: KindId) -> bool
+    ensures { result ≡ method_has kind method.now }
+{
+    match kind {
+        KindId::Reach => method.code.is_some(),
+        KindId::Fresh => method.code.is_some() && is_reference(method.kinds.result),
+        _ => true,
+    }
+}
+
+// Whether values of the type are references.
+fn is_reference(kind: Option<Kind>) -> bool
+    ensures { result ≡ is_reference kind }
+{
+    match kind {
+        Some(Kind::Class(_) | Kind::Array(_, _)) => true,
+        _ => false,
+    }
+}
+
+// How many bits the method's cell of the kind has.
+fn count_bits(method: &Method, kind: KindId) -> Result<u32, AllocError>
+    ensures { IfOk result (λ bits. bits ≡ method_bits kind method.now) }
+{
+    match kind {
+        KindId::Leak => count_arguments(method),
+        KindId::Purity => Ok(count_arguments(method)? + 2),
+        _ => Ok(1),
+    }
+}
+
+// How many arguments the method has, with its receiver.
+fn count_arguments(method: &Method) -> Result<u32, AllocError>
+    ensures count { IfOk result (λ count. count ≡ arguments method.now) }
+    ensures few { IfOk result (λ count. count ≤ MOST_PARAMETERS + 1) }
+{
+    let count = method.kinds.args.len();
+    if count > MOST_PARAMETERS {
+        return Err(AllocError);
+    }
+    if method.flags & STATIC != 0 {
+        Ok(count as u32)
+    } else {
+        Ok(count as u32 + 1)
+    }
 }
 
 fn add_cell(kind: KindId, entity: Entity, bits: u32, cells: &mut Cells) -> Result<(), AllocError>

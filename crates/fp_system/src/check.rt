@@ -3,8 +3,9 @@ ghost use Rattle.std.specs.Prelude.{◌≡◌, ◌||◌, Some, None, is_some, st
 ghost use Rattle.fp_base.specs.Files.{texts};
 ghost use Rattle.fp_base.specs.Names.{has_name};
 ghost use Rattle.fp_cells.specs.Cells.{total_places};
-ghost use Rattle.fp_system.specs.Faults.{TellsAnalysis, TellsItem, TellsLimit, TellsSystemRefusal};
+ghost use Rattle.fp_system.specs.Faults.{TellsAnalysis, TellsItem, TellsLimit, TellsRoot, TellsSystemRefusal};
 ghost use Rattle.fp_system.specs.Java.{first_failing, is_analysis, is_kind_text, java_cells, places_refusal, system_refusal};
+ghost use Rattle.fp_system.specs.Roots.{FindsRoots};
 ghost use Rattle.fp_system.specs.Shows.{FindsItems};
 
 use crate::fault::SystemFault;
@@ -17,24 +18,30 @@ use std::alloc::Global;
 /// The analyses that there are.
 const DECLARED: &[u8] = b"declared";
 
-/// Refuses the first of: an analysis that there isn't, a shown item that is neither a kind nor a cell, more places than a system may
-/// have.
+/// Refuses the first of: an analysis that there isn't, a root that is no method with code, a shown item that is neither a kind nor a
+/// cell, more places than a system may have.
 pub fn check_words(
     set: &ClassSet,
     analyses: &[String],
+    roots: &[String],
     show: &[String],
     cells: &Cells,
-    found: &Names,
+    found_roots: &Names,
+    found_items: &Names,
 ) -> Result<(), SystemFault>
     requires cells { cells.now ≡ java_cells set.now.classes }
-    requires found { FindsItems set.now (texts show.now) found.now }
-    ensures accepted { OnOk result (system_refusal set.now (texts analyses.now) (texts show.now) ≡ None) }
-    ensures refused { IfErr result (TellsSystemRefusal (system_refusal set.now (texts analyses.now) (texts show.now))) }
+    requires roots { FindsRoots set.now (texts roots.now) found_roots.now }
+    requires items { FindsItems set.now (texts show.now) found_items.now }
+    ensures accepted { OnOk result (system_refusal set.now (texts analyses.now) (texts roots.now) (texts show.now) ≡ None) }
+    ensures refused { IfErr result (TellsSystemRefusal (system_refusal set.now (texts analyses.now) (texts roots.now) (texts show.now))) }
 {
     if let Err(fault) = check_analyses(analyses) {
         return Err(fault);
     }
-    if let Err(fault) = check_items(show, found) {
+    if let Err(fault) = check_roots(roots, found_roots) {
+        return Err(fault);
+    }
+    if let Err(fault) = check_items(show, found_items) {
         return Err(fault);
     }
     if let Err(fault) = check_places(cells) {
@@ -72,6 +79,28 @@ fn unknown_analysis(name: &String) -> SystemFault
 {
     match name.clone() {
         Ok(name) => SystemFault::Analysis(name),
+        Err(_) => SystemFault::Memory,
+    }
+}
+
+// Refuses the first root that isn't among those that were found.
+fn check_roots(roots: &[String], found: &Names) -> Result<(), SystemFault>
+    ensures accepted { OnOk result (first_failing (has_name found.now) (texts roots.now) ≡ None) }
+    ensures refused { IfErr result (TellsRoot (first_failing (has_name found.now) (texts roots.now))) }
+{
+    for root in roots {
+        if found.find(root.as_bytes()).is_none() {
+            return Err(unknown_root(root));
+        }
+    }
+    Ok(())
+}
+
+fn unknown_root(root: &String) -> SystemFault
+    ensures { TellsRoot (Some (string_bytes root.now)) result }
+{
+    match root.clone() {
+        Ok(root) => SystemFault::Root(root),
         Err(_) => SystemFault::Memory,
     }
 }

@@ -9,7 +9,8 @@ ghost use Rattle.fp_system.specs.Java.{java_cells, shown_flags, shown_from};
 ghost use Rattle.fp_system.specs.Shows.{AreEntitiesOf, FindsItems, HasFound, KnowsParts, cell_text, is_marked, marked_flags, marked_from};
 
 use crate::cells::count_places;
-use crate::texts::{add_text, index_first_parts, index_texts};
+use crate::lengths::is_longer;
+use crate::texts::{Wanted, add_text, index_first_parts};
 use fp_base::Names;
 use fp_cells::{Cells, Entity, KindId, append_entity, kind_text};
 use fp_model::ClassSet;
@@ -19,10 +20,10 @@ use std::alloc::{AllocError, Global};
 #[derive(Drop)]
 pub struct ShownItems {
     /// The items.
-    pub items: Names,
+    pub items: Wanted,
     /// What stands before the first `=` of each.
     pub first_parts: Names,
-    pub ghost known: { KnowsParts items first_parts },
+    pub ghost known: { KnowsParts items.texts first_parts },
 }
 
 impl ShownItems {
@@ -33,9 +34,9 @@ impl ShownItems {
 
     /// The items, to look them up.
     pub fn index(alloc: Global, show: &[String]) -> Result<ShownItems, AllocError>
-        ensures { IfOk result (λ s. (text : List ℕ) → has_name s.items text ≡ has_text (texts show.now) text) }
+        ensures { IfOk result (λ s. (text : List ℕ) → has_name s.items.texts text ≡ has_text (texts show.now) text) }
     {
-        let items = index_texts(alloc, show)?;
+        let items = Wanted::index(alloc, show)?;
         let first_parts = index_first_parts(alloc, show)?;
         Ok(ShownItems { items, first_parts })
     }
@@ -77,9 +78,9 @@ fn find_shown(
     show: &ShownItems,
 ) -> Result<Shown, AllocError>
     requires { AreEntitiesOf set.now cells.now }
-    ensures flags { IfOk result (λ s. s.flags.items ≡ marked_flags set.now (has_name show.now.items) cells.now) }
-    ensures cells { IfOk result (λ s. s.cells.items ≡ marked_from set.now (has_name show.now.items) 0 cells.now) }
-    ensures found { IfOk result (λ s. HasFound set.now show.now.items s.found cells.now) }
+    ensures flags { IfOk result (λ s. s.flags.items ≡ marked_flags set.now (has_name show.now.items.texts) cells.now) }
+    ensures cells { IfOk result (λ s. s.cells.items ≡ marked_from set.now (has_name show.now.items.texts) 0 cells.now) }
+    ensures found { IfOk result (λ s. HasFound set.now show.now.items.texts s.found cells.now) }
 {
     let mut flags = Vec::new(alloc);
     let mut firsts = Vec::new(alloc);
@@ -111,20 +112,23 @@ fn mark(
     found: &mut Names,
 ) -> Result<bool, AllocError>
     requires { IsEntityOf set.now entity }
-    ensures shown { IfOk result (λ b. b ≡ is_marked set.now (has_name show.now.items) (record { kind = kind; entity = entity; bits = 0 })) }
-    ensures found { OnOk result ((item : List ℕ) → has_name show.now.items item ≡ true
+    ensures shown { IfOk result (λ b. b ≡ is_marked set.now (has_name show.now.items.texts) (record { kind = kind; entity = entity; bits = 0 })) }
+    ensures found { OnOk result ((item : List ℕ) → has_name show.now.items.texts item ≡ true
         → has_name found.new item ≡ (has_name found.old item || bytes_eq item (cell_text set.now (record { kind = kind; entity = entity; bits = 0 })))) }
 {
     let name = kind_text(kind);
     if show.first_parts.find(name).is_none() {
         return Ok(false);
     }
+    if is_longer(set, entity, show.items.longest) {
+        return Ok(show.items.texts.find(name).is_some());
+    }
     text.clear();
     text.extend_from_slice(name)?;
     text.push(b'=')?;
     append_entity(set, entity, text)?;
-    if show.items.find(text.as_slice()).is_none() {
-        return Ok(show.items.find(name).is_some());
+    if show.items.texts.find(text.as_slice()).is_none() {
+        return Ok(show.items.texts.find(name).is_some());
     }
     add_text(alloc, text.as_slice(), found)?;
     Ok(true)

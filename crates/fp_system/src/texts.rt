@@ -1,12 +1,49 @@
 //! Tables of the texts of words.
-ghost use Rattle.std.specs.Prelude.{◌≡◌, List, ℕ, IfOk, OnOk};
+ghost use Rattle.std.specs.Prelude.{◌≡◌, ◌≤◌, List, ℕ, length, true, IfOk, OnOk};
 ghost use Rattle.fp_base.specs.Files.{texts};
 ghost use Rattle.fp_base.specs.Names.{has_name, with_name};
 ghost use Rattle.fp_system.specs.Java.{has_text};
-ghost use Rattle.fp_system.specs.Texts.{first_parts, part_before};
+ghost use Rattle.fp_system.specs.Texts.{AreWithin, first_parts, part_before};
 
 use fp_base::Names;
 use std::alloc::{AllocError, Global};
+
+/// Texts to look up, and how long the longest is.
+#[derive(Drop)]
+pub struct Wanted {
+    /// The texts.
+    pub texts: Names,
+    /// None of them is longer.
+    pub longest: usize,
+    pub ghost short: { AreWithin longest texts },
+}
+
+impl Wanted {
+    ghost use Rattle.std.specs.Prelude.{◌≡◌, List, ℕ, IfOk};
+    ghost use Rattle.fp_base.specs.Files.{texts};
+    ghost use Rattle.fp_base.specs.Names.{has_name};
+    ghost use Rattle.fp_system.specs.Java.{has_text};
+
+    /// The texts of words, to look them up.
+    pub fn index(alloc: Global, words: &[String]) -> Result<Wanted, AllocError>
+        ensures { IfOk result (λ w. (text : List ℕ) → has_name w.texts text ≡ has_text (texts words.now) text) }
+    {
+        let texts = index_texts(alloc, words)?;
+        let longest = longest_text(words);
+        Ok(Wanted { texts, longest })
+    }
+}
+
+// How long the longest of the texts is.
+fn longest_text(words: &[String]) -> usize
+    ensures { (text : List ℕ) → has_text (texts words.now) text ≡ true → length text ≤ result }
+{
+    let mut longest = 0;
+    for word in words {
+        longest = word.as_bytes().len().max(longest);
+    }
+    longest
+}
 
 /// The texts of words, to look them up.
 pub fn index_texts(alloc: Global, words: &[String]) -> Result<Names, AllocError>

@@ -11,28 +11,28 @@ find_shown-requires c = java_entities c.args.set.now c.args.cells.now c.requires
 
 pub returns-clause-flags : goal.returns-clause-flags
 returns-clause-flags c =
-    let items = c.in_ok-items.items.items in
+    let items = c.in_ok-items.items.items.texts in
     IfOk-weaker c.find_shown.result _ _
     (λ s made. flags_are c.args.set.now (texts c.args.show.now) c.args.cells.now (has_name items) s.flags.items c.requires c.in_ok-items.ensures made)
     c.find_shown.ensures.flags
 
 pub returns-clause-cells : goal.returns-clause-cells
 returns-clause-cells c =
-    let items = c.in_ok-items.items.items in
+    let items = c.in_ok-items.items.items.texts in
     IfOk-weaker c.find_shown.result _ _
     (λ s made. firsts_are c.args.set.now (texts c.args.show.now) c.args.cells.now (has_name items) s.cells.items c.requires c.in_ok-items.ensures made)
     c.find_shown.ensures.cells
 
 pub returns-clause-found : goal.returns-clause-found
 returns-clause-found c =
-    let items = c.in_ok-items.items.items in
+    let items = c.in_ok-items.items.items.texts in
     IfOk-weaker c.find_shown.result _ _
     (λ s noted. items_same c.args.set.now c.args.cells.now items s.found (texts c.args.show.now) c.requires c.in_ok-items.ensures noted)
     c.find_shown.ensures.found
 
 pub returns-clause-long : goal.returns-clause-long
 returns-clause-long c =
-    let items = c.in_ok-items.items.items in
+    let items = c.in_ok-items.items.items.texts in
     IfOk-weaker c.find_shown.result _ _
     (λ s made. ap length made ∙ length-flags c.args.set.now (has_name items) c.args.cells.now)
     c.find_shown.ensures.flags
