@@ -1,19 +1,12 @@
 -- What words that ask for a run ask for.
-use Rattle.std.proofs.Common.{◌≡◌, ℕ, ◌≤◌, nat_lt, Bool, true, false, List, [], ◌∷◌, length, cond, Option, Some, None, refl, sym, ap, subst, ◌∙◌, arith}
-use Rattle.std.specs.Prelude.{String, option_map, option_and_then}
-use Rattle.std.specs.declared.alloc.Global.{Global}
-use Rattle.fp_base.specs.Files.{texts}
+use Rattle.std.proofs.Common.{◌≡◌, ℕ, Bool, true, false, List, [], ◌∷◌, cond, Option, Some, None, refl, sym, ap, subst, ◌∙◌}
+use Rattle.std.specs.Prelude.{option_map, option_and_then}
 use Rattle.std.specs.List.{list_all}
 use Rattle.std.proofs.lemmas.Option.{none-some, same_Some}
-use Rattle.std.proofs.lemmas.Bool.{cond-false, le-ltb}
 use Rattle.fp_words.specs.Words.{Given, RunAsked, asked, is_plain, none_given, one_worker, options_of, order_of, run_of, run_with, run_asked}
 use Rattle.fp_words.specs.Lists.{list_items}
 use Rattle.fp_top.specs.Words.{asked_of}
 use Rattle.fp_words.specs.Words.Asked.{Run, Generate}
-
-pub length-texts : (strings : List (String Global)) → length (texts strings) ≡ length strings
-length-texts [] = refl
-length-texts (s ∷ strings) = omega (arith, length-texts strings)
 
 and_then_holds : {X Y : Type 0} (P : Y → Type 0) (f : X → Option Y) (o : Option X) → ((x : X) (y : Y) → f x ≡ Some y → P y) → (y : Y) → option_and_then f o ≡ Some y → P y
 and_then_holds P f None holds y is = absurd (none-some y is)
@@ -60,21 +53,17 @@ order-is : (words : List (List ℕ)) → order_of words ≡ option_map Run (run_
 unfolding order_of
 order-is words = refl
 
--- words that are no more than those of a run without roots ask for what their run is
-asked-is : (words : List (List ℕ)) → length words ≤ 7 → asked_of words ≡ run_asked words
-asked-is words few = cond-false {A = Option RunAsked} (nat_lt 7 (length words)) None (run_asked words) (le-ltb 7 (length words) few)
-
-pub asked-run : (words : List (List ℕ)) (r : RunAsked) → length words ≤ 7 → order_of words ≡ Some (Run r) → asked_of words ≡ Some r
-asked-run words r few is = asked-is words few ∙ run-known (run_asked words) r (sym (order-is words) ∙ is)
+pub asked-run : (words : List (List ℕ)) (r : RunAsked) → order_of words ≡ Some (Run r) → asked_of words ≡ Some r
+asked-run words r is = run-known (run_asked words) r (sym (order-is words) ∙ is)
 
 pub short-run : (words : List (List ℕ)) (r : RunAsked) → order_of words ≡ Some (Run r) → (r.all ≡ false) × (r.cycles ≡ false)
 short-run words r is = asked-short words r (run-known (run_asked words) r (sym (order-is words) ∙ is))
 
-pub asked-none : (words : List (List ℕ)) → length words ≤ 7 → order_of words ≡ None → asked_of words ≡ None
-asked-none words few is = asked-is words few ∙ order-none (run_asked words) (sym (order-is words) ∙ is)
+pub asked-none : (words : List (List ℕ)) → order_of words ≡ None → asked_of words ≡ None
+asked-none words is = order-none (run_asked words) (sym (order-is words) ∙ is)
 
-pub order-of-none : (words : List (List ℕ)) → length words ≤ 7 → asked_of words ≡ None → order_of words ≡ None
-order-of-none words few is = order-is words ∙ ap (option_map Run) (sym (asked-is words few) ∙ is)
+pub order-of-none : (words : List (List ℕ)) → asked_of words ≡ None → order_of words ≡ None
+order-of-none words is = order-is words ∙ ap (option_map Run) is
 
 pub never : (words : List (List ℕ)) (seed classes workers : ℕ) → order_of words ≡ Some (Generate seed classes workers) → ⊥
 never words seed classes workers is = never-generate (run_asked words) seed classes workers (sym (order-is words) ∙ is)

@@ -15,7 +15,7 @@ use Rattle.fp_eqs.specs.Solution.{solution}
 use Rattle.fp_eqs.specs.Demand.{demand}
 use Rattle.fp_system.specs.Java.{SystemRefusal, java_cells, java_equations, shown_from, system_refusal}
 use Rattle.fp_system.specs.Limits.{most_places}
-use Rattle.fp_system.specs.Java.SystemRefusal.{UnknownAnalysis, UnknownItem, TooManyPlaces}
+use Rattle.fp_system.specs.Java.SystemRefusal.{UnknownAnalysis, UnknownRoot, UnknownItem, TooManyPlaces}
 use Rattle.fp_report.specs.Report.{report}
 use Rattle.fp_words.specs.Words.{RunAsked}
 use Rattle.fp_top.specs.declared.status.Status.{Status}
@@ -49,7 +49,7 @@ duplicate_text escaped = codes "refused: duplicate " ++ (escaped ++ codes "\n")
 abbrev pub cycle_text : List ℕ → List ℕ
 cycle_text escaped = codes "refused: cycle " ++ (escaped ++ codes "\n")
 
--- an analysis or a shown item that isn't there
+-- an analysis, a root or a shown item that isn't there
 abbrev pub selection_text : List ℕ → List ℕ
 selection_text item = codes "selection: " ++ (item ++ codes "\n")
 
@@ -78,12 +78,13 @@ java_report set asked =
 -- the outcome of a sound set, by why it has no system
 abbrev pub outcome_by : SetView → RunAsked → Option SystemRefusal → Outcome
 outcome_by set asked (Some (UnknownAnalysis name)) = Refuse status.Selection (selection_text name)
+outcome_by set asked (Some (UnknownRoot root)) = Refuse status.Selection (selection_text root)
 outcome_by set asked (Some (UnknownItem item)) = Refuse status.Selection (selection_text item)
 outcome_by set asked (Some TooManyPlaces) = Refuse status.Limit (limit_text Places most_places)
 outcome_by set asked None = Report (java_report set asked)
 
 abbrev pub outcome_of_sound : SetView → RunAsked → Outcome
-outcome_of_sound set asked = outcome_by set asked (system_refusal set asked.analyses asked.show)
+outcome_of_sound set asked = outcome_by set asked (system_refusal set asked.analyses asked.roots asked.show)
 
 -- the outcome of what was loaded, or of why nothing was
 abbrev pub outcome_of_load : RunAsked → Result SetView LoadRefusal → Outcome

@@ -1,10 +1,10 @@
--- What the words ask for, so far as it is built.
-use Rattle.std.specs.Prelude.{ℕ, nat_lt, List, length, Option, None, option_map, if◌then◌else◌}
+-- What the words ask for.
+use Rattle.std.specs.Prelude.{ℕ, List, Option, option_map}
 use Rattle.fp_words.specs.Words.{RunAsked, run_asked}
 
--- the run that the words ask for; so far nothing stands behind the three options, their values and the directory
+-- the run that the words ask for
 abbrev pub asked_of : List (List ℕ) → Option RunAsked
-asked_of words = if nat_lt 7 (length words) then None else run_asked words
+asked_of words = run_asked words
 
 -- the directory of the words, where they are of the grammar
 abbrev pub directory_of : List (List ℕ) → Option (List ℕ)

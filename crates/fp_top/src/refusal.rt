@@ -20,7 +20,7 @@ pub enum Refusal {
     Duplicate(String),
     /// The class of this escaped name lies on a cycle of superclasses.
     Cycle(String),
-    /// The analysis, or the shown item, isn't there.
+    /// The analysis, the root, or the shown item, isn't there.
     Selection(String),
     /// There is more of what is named than the bound lets.
     Limit(LimitName, u64),

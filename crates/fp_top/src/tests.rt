@@ -543,6 +543,97 @@ fn shows_what_the_words_select(rt: HostRuntime) -> Result<(), Fail> {
     Ok(())
 }
 
+/// The words of a run of `declared` that shows these items and has this root.
+fn rooted<'a>(show: &'a str, root: &'a str) -> [&'a str; 8] {
+    [
+        "--analyses",
+        "declared",
+        "--show",
+        show,
+        "--workers",
+        "1",
+        "d",
+        root,
+    ]
+}
+
+#[test]
+fn roots_are_methods_with_code(rt: HostRuntime) -> Result<(), Fail> {
+    let alloc = rt.alloc();
+    let cases: [(&str, &str, Status, &str, &str); 6] = [
+        (
+            "reach,fresh,leak,purity",
+            "A.m()V",
+            Status::Done,
+            "leak A.m()V -\npurity A.m()V impure\nreach A.m()V reached\ncells 3\n",
+            "",
+        ),
+        (
+            "declared",
+            "A.m()V",
+            Status::Done,
+            "declared A final\ncells 1\n",
+            "",
+        ),
+        (
+            "declared",
+            "M.nope()V",
+            Status::Selection,
+            "",
+            "selection: M.nope()V\n",
+        ),
+        ("declared", "A.m", Status::Selection, "", "selection: A.m\n"),
+        (
+            "declared=Q",
+            "A.m()I",
+            Status::Selection,
+            "",
+            "selection: A.m()I\n",
+        ),
+        (
+            "declared=Q",
+            "A.m()V",
+            Status::Selection,
+            "",
+            "selection: declared=Q\n",
+        ),
+    ];
+    for (show, root, status, out, err) in cases {
+        let files = files(alloc, &["d/A.class"], &WITH_METHOD)?;
+        let words = rooted(show, root);
+        let ending = run(&rt, alloc, &words, files, Vec::new(alloc), Vec::new(alloc))?;
+        assert_eq!(rt; ending.status, status);
+        assert_eq!(rt; ending.out.as_slice(), out.as_bytes());
+        assert_eq!(rt; ending.err.as_slice(), err.as_bytes());
+    }
+    Ok(())
+}
+
+#[test]
+fn names_are_given_and_shown_as_escaped_texts(rt: HostRuntime) -> Result<(), Fail> {
+    let alloc = rt.alloc();
+    let cases: [(u8, &str); 6] = [
+        (b'.', "\\x2e"),
+        (b'(', "\\x28"),
+        (b':', "\\x3a"),
+        (b',', "\\x2c"),
+        (b' ', "\\x20"),
+        (0xFF, "\\xff"),
+    ];
+    for (byte, escaped) in cases {
+        let bytes = changed(alloc, &WITH_METHOD, 42, byte)?;
+        let files = files(alloc, &["d/A.class"], &bytes)?;
+        let root = format!(in alloc; "A.{escaped}()V")?;
+        let show = format!(in alloc; "purity={root}")?;
+        let words = rooted(show.as_str(), root.as_str());
+        let ending = run(&rt, alloc, &words, files, Vec::new(alloc), Vec::new(alloc))?;
+        let out = format!(in alloc; "purity {root} impure\ncells 1\n")?;
+        assert_eq!(rt; ending.out.as_slice(), out.as_bytes());
+        assert_eq!(rt; ending.status, Status::Done);
+    }
+    Ok(())
+}
+
 /// A class without members.
 fn class(alloc: Global, names: &Names, name: &[u8], parent: &[u8]) -> Result<Class, Fail>
     ensures over { IfOk result (IsClassOver names.now) }
@@ -653,7 +744,7 @@ fn tells_which_call_of_the_outside_failed(rt: HostRuntime) -> Result<(), Fail> {
 #[test]
 fn answers_words_of_no_command_by_the_usage(rt: HostRuntime) -> Result<(), Fail> {
     let alloc = rt.alloc();
-    let cases: [&[&str]; 7] = [
+    let cases: [&[&str]; 6] = [
         &[],
         &[
             "--analyses",
@@ -671,16 +762,6 @@ fn answers_words_of_no_command_by_the_usage(rt: HostRuntime) -> Result<(), Fail>
             "--workers",
             "1",
             "d",
-        ],
-        &[
-            "--analyses",
-            "declared",
-            "--show",
-            "declared",
-            "--workers",
-            "1",
-            "d",
-            "A.m()V",
         ],
         &[
             "--analyses",

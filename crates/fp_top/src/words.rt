@@ -8,19 +8,13 @@ use crate::refusal::Refusal;
 use fp_words::{Job, Order, WordsFault, read_words};
 use std::alloc::Global;
 
-/// How many words ask for a run without roots: three options, their values, and the directory.
-const MOST_WORDS: usize = 7;
-
-/// The run that the words ask for. Roots are not built yet, and are refused as words of no command.
+/// The run that the words ask for.
 pub fn job_of(alloc: Global, words: &[String]) -> Result<Job, Refusal>
     ensures job { IfOk result (λ job. asked_of (texts words.now) ≡ Some (run_of_job job)) }
     ensures plain { IfOk result (λ job. (job.all ≡ false) × (job.cycles ≡ false)) }
     ensures refusal { IfErr result (λ refusal. IsUsage (asked_of (texts words.now)) refusal) }
     ensures usage { asked_of (texts words.now) ≡ None → IfErr result (λ refusal. refusal ≡ Refusal.Usage) }
 {
-    if words.len() > MOST_WORDS {
-        return Err(Refusal::Usage);
-    }
     match read_words(alloc, words) {
         Ok(Order::Run(job)) => Ok(job),
         Ok(Order::Generate { .. }) => unreachable!(),
