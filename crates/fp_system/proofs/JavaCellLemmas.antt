@@ -30,10 +30,6 @@ pub or-both : (a b : Bool) → a ≡ false → b ≡ false → (a || b) ≡ fals
 or-both true b h k = h
 or-both false b h k = k
 
-or-parts : (a b : Bool) → (a || b) ≡ false → (a ≡ false) × (b ≡ false)
-or-parts true b h = cc
-or-parts false b h = (refl, h)
-
 -- ---- the order of the kinds
 
 same_kind : (a b : KindId) → kinds.eq a b ≡ true → a ≡ b

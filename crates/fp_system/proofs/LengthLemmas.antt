@@ -1,10 +1,9 @@
 -- The text of an entity is at least as long as each name in it.
-use Rattle.std.proofs.Common.{◌≡◌, ◌==◌, ℕ, ◌+◌, ◌-◌, ◌/◌, ◌%◌, ◌≤◌, ◌<◌, Bool, true, false, cond, List, [], ◌∷◌, ◌++◌, Some, length, map, take, flat_map, get_or, slice_get, unwrap_or, codes, refl, sym, ap, subst, ◌∙◌, arith, length-append}
+use Rattle.std.proofs.Common.{◌≡◌, ℕ, ◌+◌, ◌-◌, ◌/◌, ◌%◌, ◌≤◌, ◌<◌, true, false, cond, List, [], ◌∷◌, ◌++◌, Some, length, map, take, flat_map, get_or, slice_get, unwrap_or, codes, refl, sym, ap, subst, ◌∙◌, arith, length-append}
 use Rattle.std.proofs.lemmas.List.{get_or-map, length-map, take_more}
 use Rattle.std.proofs.lemmas.List.Concat.{flat_map-append, get_or-flat_map}
 use Rattle.std.proofs.lemmas.Option.{get_or_from_slice_get, slice_get_within, unwrap_or-slice_get}
 use Rattle.fp_base.specs.Escape.{escaped_by, escaped_byte, escaped_name, escaped_text, hex_digit, is_plain}
-use Rattle.fp_base.specs.Names.{has_name}
 use Rattle.fp_model.specs.declared.class.Class.{Class}
 use Rattle.fp_model.specs.declared.class.Field.{Field}
 use Rattle.fp_model.specs.declared.class.Method.{Method}
@@ -92,10 +91,10 @@ module _ {F : Type 0} (members : Class → List F) (text : Class → F → List 
       let place : id ≡ length (flat_map members (take i classes)) + j = omega arith in
       let text_place : id ≡ length (flat_map class_members (take i classes)) + j = omega (arith, count_same (take i classes)) in
       let own : get_or (members c) j f ≡ f =
-          sym (ap (λ x. get_or (members x) j f) class)
-          ∙ sym (get_or-flat_map members classes i j c f within (subst (λ x. j < length (members x)) (sym class) inside))
-          ∙ sym (ap (λ k. get_or (flat_map members classes) k f) place)
-          ∙ get_or_from_slice_get (flat_map members classes) id f f is in
+      sym (ap (λ x. get_or (members x) j f) class)
+      ∙ sym (get_or-flat_map members classes i j c f within (subst (λ x. j < length (members x)) (sym class) inside))
+      ∙ sym (ap (λ k. get_or (flat_map members classes) k f) place)
+      ∙ get_or_from_slice_get (flat_map members classes) id f f is in
       let mapped : j < length (class_members c) = omega (arith, inside, length-map (members c) (text c)) in
       unwrap_or-slice_get (flat_map class_members classes) id []
       ∙ ap (λ k. get_or (flat_map class_members classes) k []) text_place
@@ -118,9 +117,9 @@ pub class_longer : (set : SetView) (id : ℕ) (c : Class) → slice_get set.clas
 class_longer set id c at =
     let within = slice_get_within set.classes id c at in
     let text : entity_text set (OfClass id) ≡ class_text set.names c =
-        unwrap_or-slice_get (class_texts set) id []
-        ∙ get_or-map (class_text set.names) set.classes id c [] within
-        ∙ ap (class_text set.names) (get_or_from_slice_get set.classes id c c at) in
+    unwrap_or-slice_get (class_texts set) id []
+    ∙ get_or-map (class_text set.names) set.classes id c [] within
+    ∙ ap (class_text set.names) (get_or_from_slice_get set.classes id c c at) in
     subst (λ v. length (text_of set.names c.name) ≤ length v) (sym text) (name_long (text_of set.names c.name))
 
 -- a text is longer than what a name in it is longer than

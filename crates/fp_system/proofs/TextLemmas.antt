@@ -59,7 +59,7 @@ pub longest_step : (words : List (String Global)) (i : ℕ) (word : String Globa
 longest_step words i word longest later text within is bytes above fits h = λ t there.
     let split = list_any-append (λ other. bytes_eq other t) (texts (take i words)) (string_bytes word ∷ []) in
     let both : (has_text (texts (take i words)) t || bytes_eq (string_bytes word) t) ≡ true =
-        ap (λ b. has_text (texts (take i words)) t || b) (sym (or-false (bytes_eq (string_bytes word) t))) ∙ sym split ∙ ap (λ v. has_text v t) (sym (words_more words i word within is)) ∙ there in
+    ap (λ b. has_text (texts (take i words)) t || b) (sym (or-false (bytes_eq (string_bytes word) t))) ∙ sym split ∙ ap (λ v. has_text v t) (sym (words_more words i word within is)) ∙ there in
     or-cases (has_text (texts (take i words)) t) (bytes_eq (string_bytes word) t) (length t ≤ later)
     (λ before. omega (arith, h t before, above))
     (λ same. let long : length text ≡ length t = ap length (bytes ∙ (bytes_eq-Decides (string_bytes word) t).0 same) in omega (arith, long, fits)) both

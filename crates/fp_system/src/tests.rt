@@ -128,12 +128,7 @@ fn words(alloc: Global, texts: &[&str]) -> Result<Items<String>, AllocError> {
 }
 
 /// A run with these analyses, roots and shown items.
-fn job(
-    alloc: Global,
-    analyses: &[&str],
-    roots: &[&str],
-    show: &[&str],
-) -> Result<Job, AllocError> {
+fn job(alloc: Global, analyses: &[&str], roots: &[&str], show: &[&str]) -> Result<Job, AllocError> {
     Ok(Job {
         dir: String::new(alloc),
         roots: words(alloc, roots)?,
@@ -218,7 +213,12 @@ fn words_that_name_nothing_are_refused(rt: HostRuntime) -> Result<(), Fail> {
         ("declared", m, "declared=B", Some(("item", "declared=B"))),
         ("declared", m, "nope", Some(("item", "nope"))),
         ("declared", m, "leak=A.m", Some(("item", "leak=A.m"))),
-        ("declared", m, "reach=A.n([I)[I", Some(("item", "reach=A.n([I)[I"))),
+        (
+            "declared",
+            m,
+            "reach=A.n([I)[I",
+            Some(("item", "reach=A.n([I)[I")),
+        ),
         ("declared", n, "nope", Some(("root", n))),
         ("declared", "A.m", "declared", Some(("root", "A.m"))),
         ("declared", "nope", "declared", Some(("root", "nope"))),

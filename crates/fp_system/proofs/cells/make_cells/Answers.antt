@@ -1,7 +1,6 @@
-use Rattle.std.proofs.Common.{◌≡◌, true, List, ◌++◌, ap, ◌∙◌}
+use Rattle.std.proofs.Common.{true, ◌++◌, ap, ◌∙◌}
 use Rattle.fp_model.specs.ClassSet.{methods_of}
 use Rattle.fp_cells.specs.declared.kind.KindId.TheVariants.{Declared, Inst, Assign, Immut, Timmut, Fresh, Leak, Purity}
-use Rattle.fp_cells.specs.Cells.{Cell}
 use Rattle.fp_system.specs.Java.{class_cells, field_cells, is_concrete, is_no_interface, method_cells, reach_cells}
 use Rattle.fp_system.specs.Kinds.{method_bits, method_has}
 use Rattle.fp_system.proofs.JavaCellLemmas.{class_cells-all, joined}

@@ -1,4 +1,4 @@
-use Rattle.std.proofs.Common.{rules, ◌≡◌, false, true, ◌++◌, ◌∙◌, ap, is_some}
+use Rattle.std.proofs.Common.{rules, ◌≡◌, true, ◌++◌, ◌∙◌, ap}
 use Rattle.fp_base.specs.Names.{has_name}
 use Rattle.fp_cells.specs.declared.kind.Entity.TheVariants.{Method as OfMethod}
 use Rattle.fp_cells.specs.Entities.{entity_text}
