@@ -10,14 +10,18 @@ use Rattle.fp_base.specs.Names.{has_name, with_name, with_names}
 use Rattle.fp_base.specs.declared.names.NameFault.{NameFault}
 use Rattle.fp_base.proofs.NameLemmas.{has_name-at, has_name-interned, has_name-kept, with_name-known, slice_get-append}
 use Rattle.fp_model.specs.declared.raw.pool.Entry.{Entry}
+use Rattle.fp_model.specs.declared.kind.Descr.{Descr}
 use Rattle.fp_model.specs.declared.kind.Kind.{Kind}
-use Rattle.fp_model.specs.Descriptor.{kind_names, IsKindOf}
+use Rattle.fp_model.specs.Descriptor.{descr_names, kind_names, IsDescrOf, IsKindOf}
 use Rattle.fp_model.specs.Entries.{text_at, class_name_at}
 use Rattle.fp_model.proofs.LongerTables.{Keeps, IsKindOf-kept}
 use Rattle.fp_class.specs.declared.memo.Memo.{Memo}
 use Rattle.fp_model.specs.Interning.{Interned}
+use Rattle.fp_model.specs.Taking.{Taken}
+use Rattle.fp_model.proofs.Taking.{taken_ok}
 use Rattle.fp_class.specs.Interning.{IsClassName}
-use Rattle.fp_class.specs.Memos.{known_at, IsTextNumber, IsTextKind, IsMemo}
+use Rattle.fp_class.specs.Memos.{known_at, AreKnown, IsMemo, IsSaidAt, IsTextNumber}
+use Rattle.fp_class.proofs.LongerInstrs.{descr_kept}
 use Rattle.fp_class.proofs.Numberings.{text_within}
 use Rattle.fp_model.proofs.Interned.{interned_ok}
 
@@ -59,6 +63,9 @@ held_longer names more (text ∷ texts) held =
 
 -- ---- in a longer table
 
+known_to : {X : Type 0} (P Q : X → ℕ → Type 0) (count : ℕ) (known : List (Option X)) → ((x : X) (i : ℕ) → P x i → Q x i) → AreKnown P count known → AreKnown Q count known
+known_to P Q count known f all = record { size = all.size; at = λ i x e. f x i (all.at i x e) }
+
 module _ (names more longer : List (List ℕ)) (is : longer ≡ names ++ more) where
   keeps : Keeps names longer
   keeps = record { stands = λ i text at. subst (λ t. slice_get t i ≡ Some text) (sym is) (slice_get-append names more i text at) }
@@ -66,20 +73,21 @@ module _ (names more longer : List (List ℕ)) (is : longer ≡ names ++ more) w
   number_longer : (entries : List Entry) (n index : ℕ) → IsTextNumber names entries n index → IsTextNumber longer entries n index
   number_longer entries n index known = record { text = known.text; text_is = known.text_is; number = keeps.stands n known.text known.number }
 
-  kind_longer : (entries : List Entry) (k : Kind) (index : ℕ) → IsTextKind names entries k index → IsTextKind longer entries k index
-  kind_longer entries k index known = record {
+  said_longer : {X : Type 0} (Says SaysLonger : List ℕ → X → Type 0) (names_in : List ℕ → List (List ℕ)) (entries : List Entry) (x : X) (index : ℕ) → ((text : List ℕ) → Says text x → SaysLonger text x) → IsSaidAt Says names_in names entries x index → IsSaidAt SaysLonger names_in longer entries x index
+  said_longer Says SaysLonger names_in entries x index f known = record {
     text = known.text;
     text_is = known.text_is;
-    kind = IsKindOf-kept names longer keeps known.text k known.kind;
-    held = subst (λ t. list_all (has_name t) (kind_names known.text) ≡ true) (sym is) (held_longer names more (kind_names known.text) known.held);
+    says = f known.text known.says;
+    held = subst (λ t. list_all (has_name t) (names_in known.text) ≡ true) (sym is) (held_longer names more (names_in known.text) known.held);
   }
 
   pub memo_longer : (entries : List Entry) (memo : Memo) → IsMemo names entries memo → IsMemo longer entries memo
   memo_longer entries memo known = record {
-    numbers_size = known.numbers_size;
-    kinds_size = known.kinds_size;
-    numbers = λ i n at. number_longer entries n i (known.numbers i n at);
-    kinds = λ i k at. kind_longer entries k i (known.kinds i k at);
+    numbers = known_to (IsTextNumber names entries) (IsTextNumber longer entries) (length entries) memo.numbers.items (number_longer entries) known.numbers;
+    kinds = known_to (IsSaidAt (IsKindOf names) kind_names names entries) (IsSaidAt (IsKindOf longer) kind_names longer entries) (length entries) memo.kinds.items
+        (λ k i. said_longer (IsKindOf names) (IsKindOf longer) kind_names entries k i (λ text. IsKindOf-kept names longer keeps text k)) known.kinds;
+    descrs = known_to (IsSaidAt (IsDescrOf names) descr_names names entries) (IsSaidAt (IsDescrOf longer) descr_names longer entries) (length entries) memo.descrs.items
+        (λ d i. said_longer (IsDescrOf names) (IsDescrOf longer) descr_names entries d i (λ text. descr_kept names longer keeps text d)) known.descrs;
   }
 
 -- ---- what the memo tells
@@ -88,81 +96,111 @@ there : (o : Option (List ℕ)) → is_some o ≡ true → o ≡ Some (unwrap_or
 there None h = absurd (cc)
 there (Some x) h = refl
 
-pub number_within : (names : List (List ℕ)) (entries : List Entry) (memo : Memo) (i : ℕ) → IsMemo names entries memo → is_some (text_at entries i) ≡ true → i < length memo.numbers.items
-number_within names entries memo i known some = omega (arith, known.numbers_size, text_within entries i (unwrap_or (text_at entries i) []) (there (text_at entries i) some))
-
-pub kind_within : (names : List (List ℕ)) (entries : List Entry) (memo : Memo) (i : ℕ) → IsMemo names entries memo → is_some (text_at entries i) ≡ true → i < length memo.kinds.items
-kind_within names entries memo i known some = omega (arith, known.kinds_size, text_within entries i (unwrap_or (text_at entries i) []) (there (text_at entries i) some))
+-- the index of a text has its place
+pub place_within : {X : Type 0} (P : X → ℕ → Type 0) (entries : List Entry) (known : List (Option X)) (i : ℕ) → AreKnown P (length entries) known → is_some (text_at entries i) ≡ true → i < length known
+place_within P entries known i all some = omega (arith, all.size, text_within entries i (unwrap_or (text_at entries i) []) (there (text_at entries i) some))
 
 pub number_told : (names : List (List ℕ)) (entries : List Entry) (memo : Memo) (i n : ℕ) → IsMemo names entries memo → known_at memo.numbers.items i ≡ Some n → slice_get names n ≡ text_at entries i
-number_told names entries memo i n known at = let it = known.numbers i n at in it.number ∙ sym it.text_is
+number_told names entries memo i n known at = let it = known.numbers.at i n at in it.number ∙ sym it.text_is
 
 pub number_interned : (names : List (List ℕ)) (entries : List Entry) (memo : Memo) (i n : ℕ) → IsMemo names entries memo → known_at memo.numbers.items i ≡ Some n → Interned (Ok n) names names (unwrap_or (text_at entries i) [] ∷ [])
 number_interned names entries memo i n known at =
-    let it = known.numbers i n at in
+    let it = known.numbers.at i n at in
     subst (λ o. Interned (Ok n) names names (unwrap_or o [] ∷ [])) (sym it.text_is)
     (interned_ok n names names (it.text ∷ []) (sym (with_name-known names it.text (has_name-at names n it.text it.number))))
 
+module _ {X : Type 0} (Says : List ℕ → X → Type 0) (names_in : List ℕ → List (List ℕ)) (names : List (List ℕ)) (entries : List Entry) (x : X) (i : ℕ) (it : IsSaidAt Says names_in names entries x i) where
+  said_told : Says (unwrap_or (text_at entries i) []) x
+  said_told = subst (λ o. Says (unwrap_or o []) x) (sym it.text_is) it.says
+
+  -- its names are in the table
+  said_same : names ≡ with_names names (names_in (unwrap_or (text_at entries i) []))
+  said_same = subst (λ o. names ≡ with_names names (names_in (unwrap_or o []))) (sym it.text_is) (sym (with_names_held names (names_in it.text) it.held))
+
 pub kind_told : (names : List (List ℕ)) (entries : List Entry) (memo : Memo) (i : ℕ) (k : Kind) → IsMemo names entries memo → known_at memo.kinds.items i ≡ Some k → IsKindOf names (unwrap_or (text_at entries i) []) k
-kind_told names entries memo i k known at =
-    let it = known.kinds i k at in
-    subst (λ o. IsKindOf names (unwrap_or o []) k) (sym it.text_is) it.kind
+kind_told names entries memo i k known at = said_told (IsKindOf names) kind_names names entries k i (known.kinds.at i k at)
 
 pub kind_interned : (names : List (List ℕ)) (entries : List Entry) (memo : Memo) (i : ℕ) (k : Kind) → IsMemo names entries memo → known_at memo.kinds.items i ≡ Some k → Interned (Ok k) names names (kind_names (unwrap_or (text_at entries i) []))
-kind_interned names entries memo i k known at =
-    let it = known.kinds i k at in
-    subst (λ o. Interned (Ok k) names names (kind_names (unwrap_or o []))) (sym it.text_is)
-    (interned_ok k names names (kind_names it.text) (sym (with_names_held names (kind_names it.text) it.held)))
+kind_interned names entries memo i k known at = interned_ok k names names (kind_names (unwrap_or (text_at entries i) [])) (said_same (IsKindOf names) kind_names names entries k i (known.kinds.at i k at))
+
+pub descr_told : (names : List (List ℕ)) (entries : List Entry) (memo : Memo) (i : ℕ) (d : Descr) → IsMemo names entries memo → known_at memo.descrs.items i ≡ Some d → IsDescrOf names (unwrap_or (text_at entries i) []) d
+descr_told names entries memo i d known at = said_told (IsDescrOf names) descr_names names entries d i (known.descrs.at i d at)
+
+pub descr_taken : (names : List (List ℕ)) (entries : List Entry) (memo : Memo) (i : ℕ) (d : Descr) → IsMemo names entries memo → known_at memo.descrs.items i ≡ Some d → Taken (Ok d) names names (descr_names (unwrap_or (text_at entries i) []))
+descr_taken names entries memo i d known at = taken_ok d names names (descr_names (unwrap_or (text_at entries i) [])) (said_same (IsDescrOf names) descr_names names entries d i (known.descrs.at i d at))
 
 -- ---- what is put into it
 
-pub nothing_noted : (names : List (List ℕ)) (entries : List Entry) (memo : Memo) → memo.numbers.items ≡ replicate (length entries) None → memo.kinds.items ≡ replicate (length entries) None → IsMemo names entries memo
-nothing_noted names entries memo numbers kinds = record {
-  numbers_size = ap length numbers ∙ length-replicate (length entries) None;
-  kinds_size = ap length kinds ∙ length-replicate (length entries) None;
-  numbers = λ i n at. absurd (neither (sym (ap (λ l. known_at l i) numbers ∙ nothing_known (length entries) i) ∙ at));
-  kinds = λ i k at. absurd (neither (sym (ap (λ l. known_at l i) kinds ∙ nothing_known (length entries) i) ∙ at));
+neither : {X : Type 0} {x : X} → None ≡ Some x → ⊥
+neither e = cc
+
+none_known : {X : Type 0} (P : X → ℕ → Type 0) (count : ℕ) (known : List (Option X)) → known ≡ replicate count None → AreKnown P count known
+none_known P count known is = record {
+  size = ap length is ∙ length-replicate count None;
+  at = λ i x e. absurd (neither (sym (ap (λ l. known_at l i) is ∙ nothing_known count i) ∙ e));
 }
-  where
-    neither : {X : Type 0} {x : X} → None ≡ Some x → ⊥
-    neither e = cc
 
-pub number_noted : (old new texts : List (List ℕ)) (entries : List Entry) (memo after : Memo) (i n : ℕ) → IsMemo old entries memo → is_some (text_at entries i) ≡ true → Interned (Ok n) old new texts → slice_get new n ≡ text_at entries i
-    → after.numbers.items ≡ set memo.numbers.items i (Some n) → after.kinds.items ≡ memo.kinds.items → IsMemo new entries after
-number_noted old new texts entries memo after i n known some taken number numbers kinds =
-    let kept = memo_longer old taken.grown.0 new taken.grown.1 entries memo known in
-    let its = there (text_at entries i) some in
+pub nothing_noted : (names : List (List ℕ)) (entries : List Entry) (memo : Memo) → memo.numbers.items ≡ replicate (length entries) None → memo.kinds.items ≡ replicate (length entries) None → memo.descrs.items ≡ replicate (length entries) None → IsMemo names entries memo
+nothing_noted names entries memo numbers kinds descrs = record {
+  numbers = none_known (IsTextNumber names entries) (length entries) memo.numbers.items numbers;
+  kinds = none_known (IsSaidAt (IsKindOf names) kind_names names entries) (length entries) memo.kinds.items kinds;
+  descrs = none_known (IsSaidAt (IsDescrOf names) descr_names names entries) (length entries) memo.descrs.items descrs;
+}
+
+-- one more is known
+one_noted : {X : Type 0} (P : X → ℕ → Type 0) (count : ℕ) (known after : List (Option X)) (i : ℕ) (x : X) → AreKnown P count known → P x i → after ≡ set known i (Some x) → AreKnown P count after
+one_noted P count known after i x all one is = record {
+  size = ap length is ∙ length-set known i (Some x) ∙ all.size;
+  at = λ j y e. elim (one_known known i j x y (sym (ap (λ l. known_at l j) is) ∙ e)) [
+    | inl before ↦ all.at j y before
+    | inr here ↦ subst (P y) (sym here.0) (subst (λ z. P z i) here.1 one)
+  ];
+}
+
+said_now : {X : Type 0} (Says : List ℕ → X → Type 0) (names_in : List ℕ → List (List ℕ)) (old new : List (List ℕ)) (entries : List Entry) (x : X) (i : ℕ) → is_some (text_at entries i) ≡ true → Says (unwrap_or (text_at entries i) []) x → new ≡ with_names old (names_in (unwrap_or (text_at entries i) [])) → IsSaidAt Says names_in new entries x i
+said_now Says names_in old new entries x i some says names =
+    let texts = names_in (unwrap_or (text_at entries i) []) in
     record {
-      numbers_size = ap length numbers ∙ length-set memo.numbers.items i (Some n) ∙ known.numbers_size;
-      kinds_size = ap length kinds ∙ known.kinds_size;
-      numbers = λ j m at. elim (one_known memo.numbers.items i j n m (sym (ap (λ l. known_at l j) numbers) ∙ at)) [
-        | inl before ↦ kept.numbers j m before
-        | inr here ↦
-            subst (λ q. IsTextNumber new entries m q) (sym here.0)
-            (subst (λ q. IsTextNumber new entries q i) here.1
-            (record { text = unwrap_or (text_at entries i) []; text_is = its; number = number ∙ its }))
-      ];
-      kinds = λ j k at. kept.kinds j k (sym (ap (λ l. known_at l j) kinds) ∙ at);
+      text = unwrap_or (text_at entries i) [];
+      text_is = there (text_at entries i) some;
+      says = says;
+      held = subst (λ t. list_all (has_name t) texts ≡ true) (sym names) (all_held old texts);
     }
 
-pub kind_noted : (old new : List (List ℕ)) (entries : List Entry) (memo after : Memo) (i : ℕ) (k : Kind) → IsMemo old entries memo → is_some (text_at entries i) ≡ true → Interned (Ok k) old new (kind_names (unwrap_or (text_at entries i) [])) → IsKindOf new (unwrap_or (text_at entries i) []) k
-    → after.kinds.items ≡ set memo.kinds.items i (Some k) → after.numbers.items ≡ memo.numbers.items → IsMemo new entries after
-kind_noted old new entries memo after i k known some taken says kinds numbers =
-    let kept = memo_longer old taken.grown.0 new taken.grown.1 entries memo known in
-    let text = unwrap_or (text_at entries i) [] in
-    let held : list_all (has_name new) (kind_names text) ≡ true = subst (λ t. list_all (has_name t) (kind_names text) ≡ true) (sym taken.names) (all_held old (kind_names text)) in
-    record {
-      numbers_size = ap length numbers ∙ known.numbers_size;
-      kinds_size = ap length kinds ∙ length-set memo.kinds.items i (Some k) ∙ known.kinds_size;
-      numbers = λ j m at. kept.numbers j m (sym (ap (λ l. known_at l j) numbers) ∙ at);
-      kinds = λ j m at. elim (one_known memo.kinds.items i j k m (sym (ap (λ l. known_at l j) kinds) ∙ at)) [
-        | inl before ↦ kept.kinds j m before
-        | inr here ↦
-            subst (λ q. IsTextKind new entries m q) (sym here.0)
-            (subst (λ q. IsTextKind new entries q i) here.1
-            (record { text = text; text_is = there (text_at entries i) some; kind = says; held = held }))
-      ];
-    }
+module _ (old new : List (List ℕ)) (entries : List Entry) (memo after : Memo) (i : ℕ) (known : IsMemo old entries memo) (some : is_some (text_at entries i) ≡ true) where
+  pub number_noted : (texts : List (List ℕ)) (n : ℕ) → Interned (Ok n) old new texts → slice_get new n ≡ text_at entries i
+      → after.numbers.items ≡ set memo.numbers.items i (Some n) → after.kinds.items ≡ memo.kinds.items → after.descrs.items ≡ memo.descrs.items → IsMemo new entries after
+  number_noted texts n taken number numbers kinds descrs =
+      let kept = memo_longer old taken.grown.0 new taken.grown.1 entries memo known in
+      let its = there (text_at entries i) some in
+      record {
+        numbers = one_noted (IsTextNumber new entries) (length entries) memo.numbers.items after.numbers.items i n kept.numbers
+            (record { text = unwrap_or (text_at entries i) []; text_is = its; number = number ∙ its }) numbers;
+        kinds = subst (AreKnown (IsSaidAt (IsKindOf new) kind_names new entries) (length entries)) (sym kinds) kept.kinds;
+        descrs = subst (AreKnown (IsSaidAt (IsDescrOf new) descr_names new entries) (length entries)) (sym descrs) kept.descrs;
+      }
+
+  pub kind_noted : (k : Kind) → Interned (Ok k) old new (kind_names (unwrap_or (text_at entries i) [])) → IsKindOf new (unwrap_or (text_at entries i) []) k
+      → after.kinds.items ≡ set memo.kinds.items i (Some k) → after.numbers.items ≡ memo.numbers.items → after.descrs.items ≡ memo.descrs.items → IsMemo new entries after
+  kind_noted k taken says kinds numbers descrs =
+      let kept = memo_longer old taken.grown.0 new taken.grown.1 entries memo known in
+      record {
+        numbers = subst (AreKnown (IsTextNumber new entries) (length entries)) (sym numbers) kept.numbers;
+        kinds = one_noted (IsSaidAt (IsKindOf new) kind_names new entries) (length entries) memo.kinds.items after.kinds.items i k kept.kinds
+            (said_now (IsKindOf new) kind_names old new entries k i some says taken.names) kinds;
+        descrs = subst (AreKnown (IsSaidAt (IsDescrOf new) descr_names new entries) (length entries)) (sym descrs) kept.descrs;
+      }
+
+  pub descr_noted : (d : Descr) → Taken (Ok d) old new (descr_names (unwrap_or (text_at entries i) [])) → IsDescrOf new (unwrap_or (text_at entries i) []) d
+      → after.descrs.items ≡ set memo.descrs.items i (Some d) → after.numbers.items ≡ memo.numbers.items → after.kinds.items ≡ memo.kinds.items → IsMemo new entries after
+  descr_noted d taken says descrs numbers kinds =
+      let kept = memo_longer old taken.grown.0 new taken.grown.1 entries memo known in
+      record {
+        numbers = subst (AreKnown (IsTextNumber new entries) (length entries)) (sym numbers) kept.numbers;
+        kinds = subst (AreKnown (IsSaidAt (IsKindOf new) kind_names new entries) (length entries)) (sym kinds) kept.kinds;
+        descrs = one_noted (IsSaidAt (IsDescrOf new) descr_names new entries) (length entries) memo.descrs.items after.descrs.items i d kept.descrs
+            (said_now (IsDescrOf new) descr_names old new entries d i some says taken.names) descrs;
+      }
 
 -- ---- the name of a class
 

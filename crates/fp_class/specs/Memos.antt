@@ -4,8 +4,7 @@ use Rattle.std.specs.List.{list_all}
 use Rattle.std.specs.Option.{option_flatten}
 use Rattle.fp_base.specs.Names.{has_name}
 use Rattle.fp_model.specs.declared.raw.pool.Entry.{Entry}
-use Rattle.fp_model.specs.declared.kind.Kind.{Kind}
-use Rattle.fp_model.specs.Descriptor.{kind_names, IsKindOf}
+use Rattle.fp_model.specs.Descriptor.{descr_names, kind_names, IsDescrOf, IsKindOf}
 use Rattle.fp_model.specs.Entries.{text_at}
 use Rattle.fp_class.specs.declared.memo.Memo.{Memo}
 
@@ -13,22 +12,26 @@ use Rattle.fp_class.specs.declared.memo.Memo.{Memo}
 abbrev pub known_at : {X : Type 0} → List (Option X) → ℕ → Option X
 known_at known i = option_flatten (slice_get known i)
 
+-- the list has a place for each index, and what it has is true there
+pub record AreKnown {X : Type 0} (IsTrueAt : X → ℕ → Type 0) (count : ℕ) (known : List (Option X)) : Type 0 where
+  pub size : length known ≡ count
+  pub at : (i : ℕ) (x : X) → known_at known i ≡ Some x → IsTrueAt x i
+
 -- the number is that of the text at an index
 pub record IsTextNumber (names : List (List ℕ)) (entries : List Entry) (n index : ℕ) : Type 0 where
   pub text : List ℕ
   pub text_is : text_at entries index ≡ Some text
   pub number : slice_get names n ≡ Some text
 
--- the kind is what the text at an index says, and the table has the names in it
-pub record IsTextKind (names : List (List ℕ)) (entries : List Entry) (k : Kind) (index : ℕ) : Type 0 where
+-- the text at an index says this, and the table has the names in it
+pub record IsSaidAt {X : Type 0} (Says : List ℕ → X → Type 0) (names_in : List ℕ → List (List ℕ)) (names : List (List ℕ)) (entries : List Entry) (x : X) (index : ℕ) : Type 0 where
   pub text : List ℕ
   pub text_is : text_at entries index ≡ Some text
-  pub kind : IsKindOf names text k
-  pub held : list_all (has_name names) (kind_names text) ≡ true
+  pub says : Says text x
+  pub held : list_all (has_name names) (names_in text) ≡ true
 
 -- what is known is true
 pub record IsMemo (names : List (List ℕ)) (entries : List Entry) (memo : Memo) : Type 0 where
-  pub numbers_size : length memo.numbers.items ≡ length entries
-  pub kinds_size : length memo.kinds.items ≡ length entries
-  pub numbers : (i n : ℕ) → known_at memo.numbers.items i ≡ Some n → IsTextNumber names entries n i
-  pub kinds : (i : ℕ) (k : Kind) → known_at memo.kinds.items i ≡ Some k → IsTextKind names entries k i
+  pub numbers : AreKnown (IsTextNumber names entries) (length entries) memo.numbers.items
+  pub kinds : AreKnown (IsSaidAt (IsKindOf names) kind_names names entries) (length entries) memo.kinds.items
+  pub descrs : AreKnown (IsSaidAt (IsDescrOf names) descr_names names entries) (length entries) memo.descrs.items

@@ -1,15 +1,17 @@
 //! What is known of the texts of a constant pool, so that each is named and read once.
-ghost use Rattle.std.specs.Prelude.{◌≡◌, ◌<◌, ℕ, List, Some, length, set, IfOk};
+ghost use Rattle.std.specs.Prelude.{◌≡◌, ◌<◌, ℕ, List, None, Some, length, option_copied, replicate, set, IfOk};
 ghost use Rattle.fp_class.specs.Memos.{known_at, IsMemo};
 
-use fp_model::{Entry, Kind};
+use fp_model::{Descr, Entry, Kind};
+use sqlite_items::Items;
 use std::alloc::{AllocError, Global};
 
-/// The numbers of texts and the kinds that descriptors say, by the indexes of the constant pool, as far as they are known.
+/// The numbers of texts, and what descriptors say, by the indexes of the constant pool, as far as they are known.
 #[derive(Drop)]
 pub struct Memo {
     pub numbers: Vec<Option<u32>>,
     pub kinds: Vec<Option<Kind>>,
+    pub descrs: Vec<Option<Descr>>,
 }
 
 /// A memo in which nothing is known.
@@ -18,7 +20,23 @@ pub fn empty_memo(alloc: Global, entries: &[Entry]) -> Result<Memo, AllocError>
 {
     let numbers = vec![in alloc; None; entries.len()]?;
     let kinds = vec![in alloc; None; entries.len()]?;
-    Ok(Memo { numbers, kinds })
+    let descrs = no_descrs(alloc, entries.len())?;
+    Ok(Memo {
+        numbers,
+        kinds,
+        descrs,
+    })
+}
+
+/// A list in which no method descriptor is known.
+fn no_descrs(alloc: Global, size: usize) -> Result<Vec<Option<Descr>>, AllocError>
+    ensures { IfOk result (λ descrs. descrs.items ≡ replicate size None) }
+{
+    let mut descrs = Vec::with_capacity(alloc, size)?;
+    for _ in 0..size {
+        descrs.push(None)?;
+    }
+    Ok(descrs)
 }
 
 /// The number of the text at an index, if it is known.
@@ -35,11 +53,33 @@ pub fn known_kind(memo: &Memo, index: u16) -> Option<Kind>
     memo.kinds.get(index as usize).copied().flatten()
 }
 
+/// What the method descriptor at an index says, if it is known.
+pub fn known_descr(memo: &Memo, index: u16) -> Option<&Descr>
+    ensures { option_copied result ≡ known_at memo.now.descrs.items index }
+{
+    match memo.descrs.get(index as usize) {
+        Some(Some(descr)) => Some(descr),
+        _ => None,
+    }
+}
+
+/// A copy of what a method descriptor says.
+pub fn copy_descr(alloc: Global, descr: &Descr) -> Result<Descr, AllocError>
+    ensures { IfOk result (λ d. d ≡ descr.now) }
+{
+    let args = Items::from_slice(alloc, descr.args.as_slice())?;
+    Ok(Descr {
+        args,
+        result: descr.result,
+    })
+}
+
 /// Keeps the number of the text at an index.
 pub fn keep_number(memo: &mut Memo, index: u16, number: u32)
     requires { index < length memo.old.numbers.items }
     ensures numbers { memo.new.numbers.items ≡ set memo.old.numbers.items index (Some number) }
     ensures kinds { memo.new.kinds.items ≡ memo.old.kinds.items }
+    ensures descrs { memo.new.descrs.items ≡ memo.old.descrs.items }
 {
     memo.numbers[index as usize] = Some(number);
 }
@@ -49,6 +89,17 @@ pub fn keep_kind(memo: &mut Memo, index: u16, kind: Kind)
     requires { index < length memo.old.kinds.items }
     ensures kinds { memo.new.kinds.items ≡ set memo.old.kinds.items index (Some kind) }
     ensures numbers { memo.new.numbers.items ≡ memo.old.numbers.items }
+    ensures descrs { memo.new.descrs.items ≡ memo.old.descrs.items }
 {
     memo.kinds[index as usize] = Some(kind);
+}
+
+/// Keeps what the method descriptor at an index says.
+pub fn keep_descr(memo: &mut Memo, index: u16, descr: Descr)
+    requires { index < length memo.old.descrs.items }
+    ensures descrs { memo.new.descrs.items ≡ set memo.old.descrs.items index (Some descr) }
+    ensures numbers { memo.new.numbers.items ≡ memo.old.numbers.items }
+    ensures kinds { memo.new.kinds.items ≡ memo.old.kinds.items }
+{
+    memo.descrs[index as usize] = Some(descr);
 }

@@ -13,7 +13,7 @@ ghost use Rattle.fp_model.specs.Taking.{Taken};
 ghost use Rattle.fp_ops.specs.Checked.{is_short_entry};
 
 use crate::code::to_code;
-use crate::memo::Memo;
+use crate::memo::{Memo, copy_descr, keep_descr, known_descr};
 use crate::naming::text;
 use fp_base::{NameFault, Names};
 use fp_model::{
@@ -38,8 +38,8 @@ fn kinds(alloc: Global, descr: &[u8], names: &mut Names) -> Result<Descr, NameFa
     }
 }
 
-/// The kinds that the descriptor at an index says.
-fn kinds_at(
+/// The kinds that the descriptor at an index says, whatever is known of it.
+fn read_kinds_at(
     alloc: Global,
     entries: &[Entry],
     index: u16,
@@ -53,6 +53,39 @@ fn kinds_at(
     match look_up::text(entries, index) {
         Some(descr) => kinds(alloc, descr, names),
         None => unreachable!(),
+    }
+}
+
+/// The kinds that the descriptor at an index says, which is then known.
+pub fn kinds_at(
+    alloc: Global,
+    entries: &[Entry],
+    index: u16,
+    names: &mut Names,
+    memo: &mut Memo,
+) -> Result<Descr, NameFault>
+    requires pool { IsTrue (list_all is_short_entry entries.now) }
+    requires descr { passes is_method_descriptor (text_at entries.now index) ≡ true }
+    requires memo { IsMemo names.old entries.now memo.old }
+    ensures kinds { IfOk result (IsDescrOf names.new (unwrap_or (text_at entries.now index) [])) }
+    ensures names { Taken result names.old names.new (descr_names (unwrap_or (text_at entries.now index) [])) }
+    ensures memo { OnOk result (IsMemo names.new entries.now memo.new) }
+{
+    if let Some(kinds) = known_descr(memo, index) {
+        return match copy_descr(alloc, kinds) {
+            Ok(copy) => Ok(copy),
+            Err(_) => Err(NameFault::Memory),
+        };
+    }
+    match read_kinds_at(alloc, entries, index, names) {
+        Ok(kinds) => match copy_descr(alloc, &kinds) {
+            Ok(copy) => {
+                keep_descr(memo, index, copy);
+                Ok(kinds)
+            }
+            Err(_) => Err(NameFault::Memory),
+        },
+        Err(fault) => Err(fault),
     }
 }
 
@@ -109,7 +142,7 @@ fn method(
     let entries = pool.entries.as_slice();
     let name = text(alloc, entries, member.name, names, memo)?;
     let descr = text(alloc, entries, member.descr, names, memo)?;
-    let kinds = kinds_at(alloc, entries, member.descr, names)?;
+    let kinds = kinds_at(alloc, entries, member.descr, names, memo)?;
     let code = code(alloc, member.attributes.as_slice(), pool, boots, names)?;
     Ok(Method {
         name,

@@ -49,8 +49,6 @@ returns-clause-method c =
 
 pub returns-clause-memo : goal.returns-clause-memo
 returns-clause-memo c =
-    let kinds = c.in_ok-kinds.ensures.names.grown in
     let code = c.in_ok-code.ensures.names.grown in
-    subst (λ e. IsMemo c.code.new.names e c.text-2.new.memo) c.as_slice-entries.ensures
-    (memo_longer c.kinds_at.new.names code.0 c.code.new.names code.1 c.as_slice-entries.result.now c.text-2.new.memo
-    (memo_longer c.text-2.new.names kinds.0 c.kinds_at.new.names kinds.1 c.as_slice-entries.result.now c.text-2.new.memo c.in_ok-descr.ensures.memo))
+    subst (λ e. IsMemo c.code.new.names e c.kinds_at.new.memo) c.as_slice-entries.ensures
+    (memo_longer c.kinds_at.new.names code.0 c.code.new.names code.1 c.as_slice-entries.result.now c.kinds_at.new.memo c.in_ok-kinds.ensures.memo)

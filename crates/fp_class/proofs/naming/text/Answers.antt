@@ -1,7 +1,7 @@
 use Rattle.std.proofs.Common.{[], ◌∷◌, sym}
 use Rattle.std.specs.Option.{unwrap_or}
 use Rattle.fp_model.specs.Entries.{text_at}
-use Rattle.fp_class.proofs.Memos.{number_told, number_interned, number_within, number_noted}
+use Rattle.fp_class.proofs.Memos.{number_told, number_interned, number_noted, place_within}
 use Rattle.fp_class.proofs.naming.text.Goals as goal
 
 pub returns-in-Some-clause-number : goal.returns-in-Some-clause-number
@@ -11,9 +11,10 @@ pub returns-in-Some-clause-names : goal.returns-in-Some-clause-names
 returns-in-Some-clause-names c = number_interned c.args.names.now c.args.entries.now c.args.memo.now c.args.index c.in-Some.number c.requires.memo (sym c.in-Some.ensures)
 
 pub keep_number-requires : goal.keep_number-requires
-keep_number-requires c = number_within c.args.names.now c.args.entries.now c.args.memo.now c.args.index c.requires.memo c.requires.there
+keep_number-requires c = place_within _ c.args.entries.now c.args.memo.now.numbers.items c.args.index c.requires.memo.numbers c.requires.there
 
 pub returns-in-Ok-clause-memo : goal.returns-in-Ok-clause-memo
 returns-in-Ok-clause-memo c =
-    number_noted c.args.names.now c.intern_text.new.names (unwrap_or (text_at c.args.entries.now c.args.index) [] ∷ []) c.args.entries.now c.args.memo.now c.keep_number.new.memo c.args.index c.in-Ok.number
-    c.requires.memo c.requires.there c.in-Ok.ensures.names c.in-Ok.ensures.number c.keep_number.ensures.numbers c.keep_number.ensures.kinds
+    number_noted c.args.names.now c.intern_text.new.names c.args.entries.now c.args.memo.now c.keep_number.new.memo c.args.index
+    c.requires.memo c.requires.there (unwrap_or (text_at c.args.entries.now c.args.index) [] ∷ []) c.in-Ok.number
+    c.in-Ok.ensures.names c.in-Ok.ensures.number c.keep_number.ensures.numbers c.keep_number.ensures.kinds c.keep_number.ensures.descrs
