@@ -2,7 +2,9 @@
 #![tactic(auto)]
 
 mod assume;
+mod laws;
 mod loaded;
 
 pub use assume::Assume;
+pub use laws::law_least_solution;
 pub use loaded::Loaded;
