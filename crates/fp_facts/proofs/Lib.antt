@@ -1,3 +1,5 @@
 pub mod Orders
 pub mod Rounds
 pub mod Flows
+pub mod JoinedWords
+pub mod JoinedFrames

@@ -1,6 +1,7 @@
 ghost use Rattle.std.specs.Prelude.{◌≡◌, ℕ, All};
 ghost use Rattle.fp_facts.specs.Lattices.{Lattice, IsLattice, IsAllBelow, least_of, IsMonotoneStep, IsLeast};
 ghost use Rattle.fp_facts.specs.Dataflow.{Problem, solution, IsSettled, IsLawful, IsLeastFlow};
+ghost use Rattle.fp_facts.specs.Frames.{frames};
 
 /// A law: over every lattice the labelling by rounds is the least solution of a monotone step.
 pub fn law_least_solution<L>()
@@ -15,4 +16,9 @@ pub fn law_least_flow<L>()
 /// A law: what is above the first labels, settled at each edge, and below the solution is the solution.
 pub fn law_same_solution<L>()
     ensures { (d : Problem L) (a : ℕ → L) → IsLawful d → IsAllBelow d.lattice d.first a → All (IsSettled d a) d.edges → IsAllBelow d.lattice a (solution d) → a ≡ solution d }
+{}
+
+/// A law: frames over a lattice of words are a lattice.
+pub fn law_frames<W>()
+    ensures { (w : Lattice W) (locals stack : ℕ) → IsLattice w → IsLattice (frames w locals stack) }
 {}
