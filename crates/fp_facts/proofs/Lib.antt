@@ -3,3 +3,4 @@ pub mod Rounds
 pub mod Flows
 pub mod JoinedWords
 pub mod JoinedFrames
+pub mod Reached
