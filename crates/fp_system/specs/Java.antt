@@ -1,5 +1,5 @@
 -- The system of a run over a set of classes: its cells, the equations of the selected analyses, and what is shown.
-use Rattle.std.specs.Prelude.{ℕ, ◌+◌, ◌-◌, ◌*◌, ◌^◌, ◌==◌, nat_lt, nat_le, Bool, true, false, ◌&&◌, ◌||◌, List, [], ◌∷◌, ◌++◌, length, map, replicate, codes, bit_and, slice_index, is_some, Option, Some, None, if◌then◌else◌}
+use Rattle.std.specs.Prelude.{ℕ, ◌+◌, ◌-◌, ◌*◌, ◌^◌, ◌==◌, nat_lt, nat_le, Bool, true, false, ◌&&◌, ◌||◌, List, [], ◌∷◌, ◌++◌, length, map, replicate, codes, bit_and, slice_index, Option, Some, None, if◌then◌else◌}
 use Rattle.std.specs.List.{list_any, flat_map, range_with_len}
 use Rattle.std.specs.Option.{option_or, option_map}
 use Rattle.std.specs.Str.{bytes_eq}
@@ -16,6 +16,8 @@ use Rattle.fp_cells.specs.Cells.{Cell, places_of, total_places}
 use Rattle.fp_cells.specs.Entities.{kind_text, entity_text}
 use Rattle.fp_eqs.specs.Equations.{Equations}
 use Rattle.fp_eqs.specs.Solved.{flag_at}
+pub use Rattle.fp_facts.specs.Hierarchy.{is_concrete}
+pub use Rattle.fp_facts.specs.Resolution.{has_code}
 use Rattle.fp_system.specs.ClassEquations.{class_tasks, declared_tasks}
 use Rattle.fp_system.specs.declared.declared.ClassTask.{ClassTask}
 use Rattle.fp_system.specs.Limits.{most_places}
@@ -53,10 +55,6 @@ lacks flags c = bit_and c.flags flags == 0
 abbrev pub is_no_interface : Class → Bool
 is_no_interface c = lacks 0x0200 c
 
--- it is one that has instances: neither ACC_INTERFACE nor ACC_ABSTRACT
-abbrev pub is_concrete : Class → Bool
-is_concrete c = lacks 0x0600 c
-
 -- a cell of the kind for each class that passes the test, in the order of the classes, the first of which is `first`
 abbrev pub class_cells : KindId → ℕ → (Class → Bool) → (first : ℕ) → List Class → List Cell
 class_cells k bits test first [] = []
@@ -72,10 +70,6 @@ abbrev pub method_cells : KindId → (Method → ℕ) → (Method → Bool) → 
 method_cells k bits test first [] = []
 method_cells k bits test first (m ∷ methods) =
     (if test m then record { kind = k; entity = entity.Method first; bits = bits m } ∷ [] else []) ++ method_cells k bits test (first + 1) methods
-
--- it has code
-abbrev pub has_code : Method → Bool
-has_code m = is_some m.code
 
 -- a type whose values are references
 abbrev pub is_reference : Option Kind → Bool

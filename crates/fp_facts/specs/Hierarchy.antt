@@ -1,0 +1,86 @@
+-- The hierarchy of a set of classes: superclasses, superinterfaces, and which names a class goes by (JVMS SE 21 sections 4.1 and 5.4.3).
+use Rattle.std.specs.Prelude.{ℕ, zero, suc, ◌+◌, ◌==◌, Bool, not, ◌&&◌, ◌||◌, List, [], ◌∷◌, ◌++◌, length, codes, fold, bit_and, slice_get, slice_index, is_none, Option, Some, None, option_and_then, if◌then◌else◌}
+use Rattle.std.specs.List.{list_any, flat_map}
+use Rattle.std.specs.Option.{option_map_or, option_to_list}
+use Rattle.std.specs.Str.{bytes_eq}
+use Rattle.fp_model.specs.declared.class.Class.{Class}
+use Rattle.fp_model.specs.ClassSet.{SetView, class_named}
+use Rattle.fp_model.specs.Descriptor.{text_of}
+
+-- ---- classes by their names
+
+-- the class of a name, where it is in the set
+abbrev pub class_of_name : List Class → ℕ → Option Class
+class_of_name classes name = option_and_then (slice_get classes) (class_named classes name)
+
+-- the name is of no class in the set; no array is in a set
+abbrev pub is_outside : List Class → ℕ → Bool
+is_outside classes name = is_none (class_named classes name)
+
+abbrev pub is_array_name : List (List ℕ) → ℕ → Bool
+is_array_name names name = slice_index (text_of names name) 0 == 91
+
+abbrev pub is_object : List (List ℕ) → ℕ → Bool
+is_object names name = bytes_eq (text_of names name) (codes "java/lang/Object")
+
+-- access flags: ACC_INTERFACE, and neither it nor ACC_ABSTRACT (table 4.1-B)
+abbrev pub is_interface : Class → Bool
+is_interface c = not (bit_and c.flags 0x0200 == 0)
+
+abbrev pub is_concrete : Class → Bool
+is_concrete c = bit_and c.flags 0x0600 == 0
+
+-- ---- ancestors
+
+abbrev pub has_number : List ℕ → ℕ → Bool
+has_number numbers n = list_any (λ m. m == n) numbers
+
+-- the names of superclasses from one up, at most so many; a name outside the set is the last
+unfoldable pub superclasses_from : List Class → (most : ℕ) → Option ℕ → List ℕ
+superclasses_from classes zero name = []
+superclasses_from classes (suc most) None = []
+superclasses_from classes (suc most) (Some name) = name ∷ superclasses_from classes most (option_and_then (λ c. c.parent) (class_of_name classes name))
+
+-- those of a class, from the nearest up: in a set without cycles there are at most as many as there are classes
+abbrev pub superclasses : List Class → Class → List ℕ
+superclasses classes c = superclasses_from classes (length classes) c.parent
+
+-- the direct superinterfaces of the class of a name, none where it is outside the set
+abbrev pub superinterfaces_of : List Class → ℕ → List ℕ
+superinterfaces_of classes name = option_map_or (λ c. c.interfaces) (class_of_name classes name) []
+
+-- the names behind those that were met, each followed by what its class extends, depth first and in the order of the files;
+-- a name that was met is passed over. Each level but the last has met one class of the set more.
+unfoldable pub met_from : List Class → (levels : ℕ) → (met names : List ℕ) → List ℕ
+met_from classes zero met names = met
+met_from classes (suc levels) met names =
+    fold (λ seen name. if has_number seen name then seen else met_from classes levels (seen ++ name ∷ []) (superinterfaces_of classes name)) met names
+
+abbrev pub with_superinterfaces : List Class → (met names : List ℕ) → List ℕ
+with_superinterfaces classes met names = met_from classes (length classes + 1) met names
+
+-- the ancestors of a class: its superclasses from the nearest up, and then the superinterfaces of the class and of these
+abbrev pub ancestors : List Class → Class → List ℕ
+ancestors classes c =
+    let above = superclasses classes c in
+    with_superinterfaces classes above (c.interfaces ++ flat_map (superinterfaces_of classes) above)
+
+-- ---- which names a class goes by
+
+-- the name is the class's own, or an ancestor's
+abbrev pub fits : List Class → Class → ℕ → Bool
+fits classes c name = (c.name == name) || has_number (ancestors classes c) name
+
+-- some ancestor is outside the set, and not `java/lang/Object`
+abbrev pub has_outside_ancestor : SetView → Class → Bool
+has_outside_ancestor set c = list_any (λ name. is_outside set.classes name && not (is_object set.names name)) (ancestors set.classes c)
+
+-- its objects may be of the class of a name, as far as the set tells: an outside class may be above an outside ancestor
+abbrev pub may_fit : SetView → Class → ℕ → Bool
+may_fit set c name =
+    fits set.classes c name
+    || (is_outside set.classes name && (not (is_array_name set.names name) && has_outside_ancestor set c))
+
+-- the classes of the set among names, by their numbers
+abbrev pub classes_among : List Class → List ℕ → List ℕ
+classes_among classes names = flat_map (λ name. option_to_list (class_named classes name)) names
