@@ -5,7 +5,7 @@ use Rattle.std.proofs.Math.Nat.{mul-le-mul_left}
 use Rattle.std.proofs.lemmas.Bool.{and_parts, and_from, cond-true, cond-false, cond_both, eqb-true, eq-eqb, leb-true, le-leb, false_from_ne_true, both_ways}
 use Rattle.fp_facts.specs.declared.label.Label.{Label}
 use Rattle.fp_facts.specs.declared.label.Label.TheVariants.{Unreached, Bad, Frame}
-use Rattle.fp_facts.specs.Lattices.{Lattice, IsLattice, IsBelow}
+use Rattle.fp_facts.specs.Lattices.{Lattice, IsLattice}
 use Rattle.fp_facts.specs.Frames.{join_words, same_shape, join_labels, words_height, label_height, fits_label, frames}
 use Rattle.fp_facts.proofs.JoinedWords.{length-join_words, join_words-assoc, join_words-comm, join_words-idem, join_words-fit, words_height-most, words_height-grows, words_height-same}
 
@@ -145,7 +145,7 @@ module _ {W : Type 0} (w : Lattice W) (laws : IsLattice w) where
   frames-below l s m t true h below =
       let known = same_shape-parts l s m t h in
       let parts : Frame (join_words w.join l m) (join_words w.join s t) ≡ Frame m t = sym (join-same l s m t h) ∙ below in
-      record { locals_long = known.0; stack_long = known.1; locals = cc; stack = cc; }
+      record { locals_long = known.0; stack_long = known.1; locals = cc; stack = cc }
   frames-below l s m t false h below = let parts : Bad ≡ Frame m t = sym (join-other l s m t h) ∙ below in absurd cc
 
   pub frame-below : (l s m t : List W) → join_labels w.join (Frame l s) (Frame m t) ≡ Frame m t → IsFrameBelow w l s m t

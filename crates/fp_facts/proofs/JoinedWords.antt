@@ -1,6 +1,6 @@
 -- The join of lists of words, word by word, and their heights.
-use Rattle.std.proofs.Common.{◌≡◌, ◌≤◌, ◌+◌, ◌*◌, ◌&&◌, ℕ, true, List, [], ◌∷◌, length, refl, ap, arith, suc}
-use Rattle.std.specs.List.{list_all, sum_by}
+use Rattle.std.proofs.Common.{◌≡◌, ◌≤◌, ◌*◌, true, List, [], ◌∷◌, length, refl, ap, arith, suc}
+use Rattle.std.specs.List.{list_all}
 use Rattle.std.proofs.lemmas.Bool.{and_parts, and_from}
 use Rattle.std.proofs.lemmas.List.Sums.{sum_by-cons}
 use Rattle.fp_facts.specs.Lattices.{Lattice, IsLattice}

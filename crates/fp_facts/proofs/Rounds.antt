@@ -1,9 +1,9 @@
 -- Whole rounds of a monotone step end in its least solution.
-use Rattle.std.proofs.Common.{◌≡◌, ◌<◌, ◌≤◌, ◌+◌, ◌*◌, ◌⊎◌, ℕ, IsTrue, refl, sym, ap, subst, ◌∙◌, inl, inr, arith, zero, suc, add-one}
+use Rattle.std.proofs.Common.{◌≡◌, ◌<◌, ◌≤◌, ◌*◌, ◌⊎◌, ℕ, IsTrue, sym, ap, subst, inl, inr, arith, zero, suc, add-one}
 use Rattle.std.proofs.lemmas.Bool.{cases_lt}
 use Rattle.fp_eqs.specs.Bounds.{sum_below}
-use Rattle.fp_eqs.proofs.Sums.{sum_below-le, sum_below-same, sum_below-most}
-use Rattle.fp_facts.specs.Lattices.{Lattice, IsLattice, IsBelow, IsAllBelow, after_rounds, least_of, IsMonotoneStep, IsLeast}
+use Rattle.fp_eqs.proofs.Sums.{sum_below-same, sum_below-most}
+use Rattle.fp_facts.specs.Lattices.{Lattice, IsLattice, IsAllBelow, after_rounds, least_of, IsMonotoneStep, IsLeast}
 use Rattle.fp_facts.proofs.Orders.{below-refl, below-trans}
 
 module _ {L : Type 0} (l : Lattice L) (laws : IsLattice l) (nodes : ℕ) (step : (ℕ → L) → ℕ → L) (first : ℕ → L) (m : IsMonotoneStep l nodes step first) where

@@ -20,9 +20,11 @@ abbrev pub arrived : {L : Type 0} → Problem L → List Edge → (ℕ → L) �
 arrived d [] a p = a p
 arrived d (e ∷ es) a p = if e.1 == p then d.lattice.join (arrived d es a p) (d.carry e (a e.0)) else arrived d es a p
 
+-- every edge once
 abbrev pub flow_round : {L : Type 0} → Problem L → (ℕ → L) → ℕ → L
 flow_round d a p = arrived d d.edges a p
 
+-- the labelling by rounds
 unfoldable pub solution : {L : Type 0} → Problem L → ℕ → L
 solution d = least_of d.lattice d.nodes (flow_round d) d.first
 
@@ -34,6 +36,7 @@ IsSettled d a e = IsBelow d.lattice (d.carry e (a e.0)) (a e.1)
 abbrev pub labels : {L : Type 0} → Problem L → List L → ℕ → L
 labels d xs p = slice_index_or xs p d.bottom
 
+-- carrying keeps the order of labels and that they fit, and edges and first labels keep to the nodes
 pub record IsLawful {L : Type 0} (d : Problem L) : Type 0 where
   pub lattice : IsLattice d.lattice
   pub fits : (e : Edge) (x : L) → IsTrue (d.lattice.fits x) → IsTrue (d.lattice.fits (d.carry e x))

@@ -21,7 +21,9 @@ mod tests {
         let locals = Items::from_vec([1u8, 2].to_vec(rt.alloc())?);
         let stack = Items::from_vec([3u8].to_vec(rt.alloc())?);
         let label = Label::Frame { locals, stack };
-        assert!(rt; matches!(&label, Label::Frame { locals, stack } if locals.len() == 2 && stack.len() == 1));
+        assert!(rt;
+            matches!(&label, Label::Frame { locals, stack } if locals.len() == 2 && stack.len() == 1)
+        );
         Ok(())
     }
 }
