@@ -27,3 +27,17 @@ pub fn law_reaches()
 pub fn law_frames<W>()
     ensures { (w : Lattice W) (locals stack : ℕ) → IsLattice w → IsLattice (frames w locals stack) }
 {}
+
+#[cfg(test)]
+mod tests {
+    use super::*;
+
+    #[test]
+    fn the_laws_can_be_called_at_a_type(_rt: HostRuntime) {
+        law_least_solution::<u64>();
+        law_least_flow::<u64>();
+        law_same_solution::<u64>();
+        law_reaches();
+        law_frames::<u64>();
+    }
+}
