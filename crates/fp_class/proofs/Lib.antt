@@ -22,6 +22,7 @@ pub mod SoundCodes
 pub mod Skipped
 pub mod OneClass
 pub mod Phases
+pub mod ReferenceTexts
 pub mod Sorts
 mod SoundInstrs
 pub mod SoundMethods

@@ -65,7 +65,7 @@ module _ (names longer : List (List ℕ)) (kept : Keeps names longer) where
 
   -- ---- members
 
-  member_kept : (texts : MemberTexts) (class name descr : ℕ) → IsMember names texts class name descr → IsMember longer texts class name descr
+  pub member_kept : (texts : MemberTexts) (class name descr : ℕ) → IsMember names texts class name descr → IsMember longer texts class name descr
   member_kept texts class name descr is = record {
     class_is = kept.stands class texts.class is.class_is;
     name_is = kept.stands name texts.name is.name_is;
@@ -123,7 +123,7 @@ module _ (names longer : List (List ℕ)) (kept : Keeps names longer) where
 
   -- ---- call sites
 
-  reference_kept : (handle : HandleTexts) (r : BootRef) → IsBootRef names handle r → IsBootRef longer handle r
+  pub reference_kept : (handle : HandleTexts) (r : BootRef) → IsBootRef names handle r → IsBootRef longer handle r
   reference_kept handle r is = record { kind_is = is.kind_is; member_is = member_kept handle.member r.class r.name r.descr is.member_is }
 
   type_arg_kept : (a : BootArg) (text : List ℕ) → IsTypeArg names text a → IsTypeArg longer text a
@@ -134,7 +134,7 @@ module _ (names longer : List (List ℕ)) (kept : Keeps names longer) where
   handle_arg_kept (arg.Ref r) handle is = reference_kept handle r is
   handle_arg_kept _ handle is = absurd is
 
-  arg_kept : (entries : List Entry) (e : Option Entry) (a : BootArg) → IsArgOf names entries e a → IsArgOf longer entries e a
+  pub arg_kept : (entries : List Entry) (e : Option Entry) (a : BootArg) → IsArgOf names entries e a → IsArgOf longer entries e a
   arg_kept entries (Some (entry.MethodType descr)) a is = IsOf-to (λ text. IsTypeArg names text a) (λ text. IsTypeArg longer text a) (text_at entries descr) (λ text is. type_arg_kept a text is) is
   arg_kept entries (Some (entry.Handle kind index)) a is = IsOf-to (λ handle. IsHandleArg names handle a) (λ handle. IsHandleArg longer handle a) (handle_with kind (member_at entries index)) (λ handle is. handle_arg_kept a handle is) is
   arg_kept entries _ a is = is

@@ -1,5 +1,5 @@
 -- What is known of texts stays true while texts are taken into the table of names.
-use Rattle.std.proofs.Common.{◌≡◌, ◌⊎◌, inl, inr, ℕ, zero, suc, ◌<◌, true, ◌||◌, List, [], ◌∷◌, ◌++◌, Result, Ok, Option, Some, None, length, length-set, replicate, set, refl, sym, ap, ◌∙◌, subst, arith}
+use Rattle.std.proofs.Common.{◌≡◌, ◌⊎◌, inl, inr, ℕ, zero, suc, ◌<◌, true, ◌||◌, List, [], ◌∷◌, ◌++◌, Result, Ok, Option, Some, None, length, length-set, drop, replicate, set, refl, sym, ap, ◌∙◌, subst, arith}
 use Rattle.std.proofs.lemmas.Bool.{and_parts, and_from}
 use Rattle.std.proofs.lemmas.List.{length-replicate}
 use Rattle.std.proofs.lemmas.List.Folds.{list_any-append}
@@ -20,7 +20,7 @@ use Rattle.fp_model.specs.Interning.{Interned}
 use Rattle.fp_model.specs.Taking.{Taken}
 use Rattle.fp_model.proofs.Taking.{taken_ok}
 use Rattle.fp_class.specs.Interning.{IsClassName}
-use Rattle.fp_class.specs.Memos.{known_at, AreKnown, IsMemo, IsSaidAt, IsTextNumber}
+use Rattle.fp_class.specs.Memos.{element_names, known_at, AreKnown, IsElementOf, IsMemo, IsSaidAt, IsTextNumber}
 use Rattle.fp_class.proofs.LongerInstrs.{descr_kept}
 use Rattle.fp_class.proofs.Numberings.{text_within}
 use Rattle.fp_model.proofs.Interned.{interned_ok}
@@ -86,13 +86,15 @@ module _ (names more longer : List (List ℕ)) (is : longer ≡ names ++ more) w
     numbers = known_to (IsTextNumber names entries) (IsTextNumber longer entries) (length entries) memo.numbers.items (number_longer entries) known.numbers;
     kinds = known_to (IsSaidAt (IsKindOf names) kind_names names entries) (IsSaidAt (IsKindOf longer) kind_names longer entries) (length entries) memo.kinds.items
         (λ k i. said_longer (IsKindOf names) (IsKindOf longer) kind_names entries k i (λ text. IsKindOf-kept names longer keeps text k)) known.kinds;
+    elements = known_to (IsSaidAt (IsElementOf names) element_names names entries) (IsSaidAt (IsElementOf longer) element_names longer entries) (length entries) memo.elements.items
+        (λ k i. said_longer (IsElementOf names) (IsElementOf longer) element_names entries k i (λ text. IsKindOf-kept names longer keeps (drop 1 text) k)) known.elements;
     descrs = known_to (IsSaidAt (IsDescrOf names) descr_names names entries) (IsSaidAt (IsDescrOf longer) descr_names longer entries) (length entries) memo.descrs.items
         (λ d i. said_longer (IsDescrOf names) (IsDescrOf longer) descr_names entries d i (λ text. descr_kept names longer keeps text d)) known.descrs;
   }
 
 -- ---- what the memo tells
 
-there : (o : Option (List ℕ)) → is_some o ≡ true → o ≡ Some (unwrap_or o [])
+pub there : (o : Option (List ℕ)) → is_some o ≡ true → o ≡ Some (unwrap_or o [])
 there None h = absurd (cc)
 there (Some x) h = refl
 
@@ -123,6 +125,12 @@ kind_told names entries memo i k known at = said_told (IsKindOf names) kind_name
 pub kind_interned : (names : List (List ℕ)) (entries : List Entry) (memo : Memo) (i : ℕ) (k : Kind) → IsMemo names entries memo → known_at memo.kinds.items i ≡ Some k → Interned (Ok k) names names (kind_names (unwrap_or (text_at entries i) []))
 kind_interned names entries memo i k known at = interned_ok k names names (kind_names (unwrap_or (text_at entries i) [])) (said_same (IsKindOf names) kind_names names entries k i (known.kinds.at i k at))
 
+pub element_told : (names : List (List ℕ)) (entries : List Entry) (memo : Memo) (i : ℕ) (k : Kind) → IsMemo names entries memo → known_at memo.elements.items i ≡ Some k → IsKindOf names (drop 1 (unwrap_or (text_at entries i) [])) k
+element_told names entries memo i k known at = said_told (IsElementOf names) element_names names entries k i (known.elements.at i k at)
+
+pub element_interned : (names : List (List ℕ)) (entries : List Entry) (memo : Memo) (i : ℕ) (k : Kind) → IsMemo names entries memo → known_at memo.elements.items i ≡ Some k → Interned (Ok k) names names (kind_names (drop 1 (unwrap_or (text_at entries i) [])))
+element_interned names entries memo i k known at = interned_ok k names names (element_names (unwrap_or (text_at entries i) [])) (said_same (IsElementOf names) element_names names entries k i (known.elements.at i k at))
+
 pub descr_told : (names : List (List ℕ)) (entries : List Entry) (memo : Memo) (i : ℕ) (d : Descr) → IsMemo names entries memo → known_at memo.descrs.items i ≡ Some d → IsDescrOf names (unwrap_or (text_at entries i) []) d
 descr_told names entries memo i d known at = said_told (IsDescrOf names) descr_names names entries d i (known.descrs.at i d at)
 
@@ -140,10 +148,11 @@ none_known P count known is = record {
   at = λ i x e. absurd (neither (sym (ap (λ l. known_at l i) is ∙ nothing_known count i) ∙ e));
 }
 
-pub nothing_noted : (names : List (List ℕ)) (entries : List Entry) (memo : Memo) → memo.numbers.items ≡ replicate (length entries) None → memo.kinds.items ≡ replicate (length entries) None → memo.descrs.items ≡ replicate (length entries) None → IsMemo names entries memo
-nothing_noted names entries memo numbers kinds descrs = record {
+pub nothing_noted : (names : List (List ℕ)) (entries : List Entry) (memo : Memo) → memo.numbers.items ≡ replicate (length entries) None → memo.kinds.items ≡ replicate (length entries) None → memo.elements.items ≡ replicate (length entries) None → memo.descrs.items ≡ replicate (length entries) None → IsMemo names entries memo
+nothing_noted names entries memo numbers kinds elements descrs = record {
   numbers = none_known (IsTextNumber names entries) (length entries) memo.numbers.items numbers;
   kinds = none_known (IsSaidAt (IsKindOf names) kind_names names entries) (length entries) memo.kinds.items kinds;
+  elements = none_known (IsSaidAt (IsElementOf names) element_names names entries) (length entries) memo.elements.items elements;
   descrs = none_known (IsSaidAt (IsDescrOf names) descr_names names entries) (length entries) memo.descrs.items descrs;
 }
 
@@ -169,35 +178,50 @@ said_now Says names_in old new entries x i some says names =
 
 module _ (old new : List (List ℕ)) (entries : List Entry) (memo after : Memo) (i : ℕ) (known : IsMemo old entries memo) (some : is_some (text_at entries i) ≡ true) where
   pub number_noted : (texts : List (List ℕ)) (n : ℕ) → Interned (Ok n) old new texts → slice_get new n ≡ text_at entries i
-      → after.numbers.items ≡ set memo.numbers.items i (Some n) → after.kinds.items ≡ memo.kinds.items → after.descrs.items ≡ memo.descrs.items → IsMemo new entries after
-  number_noted texts n taken number numbers kinds descrs =
+      → after.numbers.items ≡ set memo.numbers.items i (Some n) → after.kinds.items ≡ memo.kinds.items → after.elements.items ≡ memo.elements.items → after.descrs.items ≡ memo.descrs.items → IsMemo new entries after
+  number_noted texts n taken number numbers kinds elements descrs =
       let kept = memo_longer old taken.grown.0 new taken.grown.1 entries memo known in
       let its = there (text_at entries i) some in
       record {
         numbers = one_noted (IsTextNumber new entries) (length entries) memo.numbers.items after.numbers.items i n kept.numbers
             (record { text = unwrap_or (text_at entries i) []; text_is = its; number = number ∙ its }) numbers;
         kinds = subst (AreKnown (IsSaidAt (IsKindOf new) kind_names new entries) (length entries)) (sym kinds) kept.kinds;
+        elements = subst (AreKnown (IsSaidAt (IsElementOf new) element_names new entries) (length entries)) (sym elements) kept.elements;
         descrs = subst (AreKnown (IsSaidAt (IsDescrOf new) descr_names new entries) (length entries)) (sym descrs) kept.descrs;
       }
 
   pub kind_noted : (k : Kind) → Interned (Ok k) old new (kind_names (unwrap_or (text_at entries i) [])) → IsKindOf new (unwrap_or (text_at entries i) []) k
-      → after.kinds.items ≡ set memo.kinds.items i (Some k) → after.numbers.items ≡ memo.numbers.items → after.descrs.items ≡ memo.descrs.items → IsMemo new entries after
-  kind_noted k taken says kinds numbers descrs =
+      → after.kinds.items ≡ set memo.kinds.items i (Some k) → after.numbers.items ≡ memo.numbers.items → after.elements.items ≡ memo.elements.items → after.descrs.items ≡ memo.descrs.items → IsMemo new entries after
+  kind_noted k taken says kinds numbers elements descrs =
       let kept = memo_longer old taken.grown.0 new taken.grown.1 entries memo known in
       record {
         numbers = subst (AreKnown (IsTextNumber new entries) (length entries)) (sym numbers) kept.numbers;
         kinds = one_noted (IsSaidAt (IsKindOf new) kind_names new entries) (length entries) memo.kinds.items after.kinds.items i k kept.kinds
             (said_now (IsKindOf new) kind_names old new entries k i some says taken.names) kinds;
+        elements = subst (AreKnown (IsSaidAt (IsElementOf new) element_names new entries) (length entries)) (sym elements) kept.elements;
         descrs = subst (AreKnown (IsSaidAt (IsDescrOf new) descr_names new entries) (length entries)) (sym descrs) kept.descrs;
       }
 
-  pub descr_noted : (d : Descr) → Taken (Ok d) old new (descr_names (unwrap_or (text_at entries i) [])) → IsDescrOf new (unwrap_or (text_at entries i) []) d
-      → after.descrs.items ≡ set memo.descrs.items i (Some d) → after.numbers.items ≡ memo.numbers.items → after.kinds.items ≡ memo.kinds.items → IsMemo new entries after
-  descr_noted d taken says descrs numbers kinds =
+  pub element_noted : (k : Kind) → Interned (Ok k) old new (kind_names (drop 1 (unwrap_or (text_at entries i) []))) → IsKindOf new (drop 1 (unwrap_or (text_at entries i) [])) k
+      → after.elements.items ≡ set memo.elements.items i (Some k) → after.numbers.items ≡ memo.numbers.items → after.kinds.items ≡ memo.kinds.items → after.descrs.items ≡ memo.descrs.items → IsMemo new entries after
+  element_noted k taken says elements numbers kinds descrs =
       let kept = memo_longer old taken.grown.0 new taken.grown.1 entries memo known in
       record {
         numbers = subst (AreKnown (IsTextNumber new entries) (length entries)) (sym numbers) kept.numbers;
         kinds = subst (AreKnown (IsSaidAt (IsKindOf new) kind_names new entries) (length entries)) (sym kinds) kept.kinds;
+        elements = one_noted (IsSaidAt (IsElementOf new) element_names new entries) (length entries) memo.elements.items after.elements.items i k kept.elements
+            (said_now (IsElementOf new) element_names old new entries k i some says taken.names) elements;
+        descrs = subst (AreKnown (IsSaidAt (IsDescrOf new) descr_names new entries) (length entries)) (sym descrs) kept.descrs;
+      }
+
+  pub descr_noted : (d : Descr) → Taken (Ok d) old new (descr_names (unwrap_or (text_at entries i) [])) → IsDescrOf new (unwrap_or (text_at entries i) []) d
+      → after.descrs.items ≡ set memo.descrs.items i (Some d) → after.numbers.items ≡ memo.numbers.items → after.kinds.items ≡ memo.kinds.items → after.elements.items ≡ memo.elements.items → IsMemo new entries after
+  descr_noted d taken says descrs numbers kinds elements =
+      let kept = memo_longer old taken.grown.0 new taken.grown.1 entries memo known in
+      record {
+        numbers = subst (AreKnown (IsTextNumber new entries) (length entries)) (sym numbers) kept.numbers;
+        kinds = subst (AreKnown (IsSaidAt (IsKindOf new) kind_names new entries) (length entries)) (sym kinds) kept.kinds;
+        elements = subst (AreKnown (IsSaidAt (IsElementOf new) element_names new entries) (length entries)) (sym elements) kept.elements;
         descrs = one_noted (IsSaidAt (IsDescrOf new) descr_names new entries) (length entries) memo.descrs.items after.descrs.items i d kept.descrs
             (said_now (IsDescrOf new) descr_names old new entries d i some says taken.names) descrs;
       }

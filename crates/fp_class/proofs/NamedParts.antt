@@ -1,9 +1,10 @@
 -- The parts of a class in numbers of a table of names.
 use Rattle.std.proofs.Common.{◌≡◌, inl, inr, ℕ, ◌+◌, true, ◌&&◌, drop, Bool, zero, suc, ◌<◌, List, [], ◌∷◌, ◌++◌, map, Option, Some, None, length, refl, sym, ap, ◌∙◌, subst, arith}
 use Rattle.std.proofs.lemmas.List.Elements.{All-nil, All-cons}
-use Rattle.std.proofs.lemmas.Bool.{and_parts, both_ways, cases_lt, ltb-true}
+use Rattle.std.proofs.lemmas.Bool.{and_from, and_parts, both_ways, cases_lt, lt-ltb, ltb-true}
 use Rattle.std.proofs.lemmas.List.{take-append-drop}
 use Rattle.std.specs.List.{All, list_all, AllZip, slice_get}
+use Rattle.std.specs.Prelude.{nat_lt}
 use Rattle.std.specs.Option.{is_some, option_and_then, unwrap_or, IfSome}
 use Rattle.fp_model.specs.declared.raw.pool.Entry.{Entry}
 use Rattle.fp_model.specs.declared.raw.pool.Entry.TheVariants as entry
@@ -14,6 +15,7 @@ use Rattle.fp_class.specs.Classes.{IsFieldOf}
 use Rattle.fp_model.specs.ClassSet.{IsFieldOver}
 use Rattle.fp_model.specs.Descriptor.{is_field_descriptor, IsKindOf, StopsAt}
 use Rattle.fp_model.specs.Entries.{passes, text_in, text_at, class_name_at}
+use Rattle.fp_model.specs.NamedInstructions.{is_entry_text}
 use Rattle.fp_model.proofs.LongerTables.{Keeps, IsKindOf-kept}
 use Rattle.fp_model.proofs.Interned.{Keeps-then}
 use Rattle.fp_ops.specs.Checked.{is_short_entry}
@@ -151,6 +153,14 @@ pub text_short : (entries : List Entry) (i : ℕ) (text : List ℕ) → list_all
 text_short [] i text short at = absurd (cc)
 text_short (e ∷ entries) zero text short at = entry_text e text (and_parts (is_short_entry e) (list_all is_short_entry entries) short).0 at
 text_short (e ∷ entries) (suc i) text short at = text_short entries i text (and_parts (is_short_entry e) (list_all is_short_entry entries) short).1 at
+
+-- so a text that passes a test does as one of a class file
+pub entry_passes : (test : List ℕ → Bool) (entries : List Entry) (i : ℕ) → list_all is_short_entry entries ≡ true → passes test (text_at entries i) ≡ true → passes (is_entry_text test) (text_at entries i) ≡ true
+entry_passes test entries i short =
+    elim (text_at entries i) as (λ o. text_at entries i ≡ o → passes test o ≡ true → passes (is_entry_text test) o ≡ true) [
+      | None ↦ λ at passed. passed
+      | Some text ↦ λ at passed. and_from (nat_lt (length text) 65536) (test text) (lt-ltb (length text) 65536 (text_short entries i text short at)) passed
+    ] refl
 
 -- a text that passes the test has no bad place
 pub not_bad : (test : List ℕ → Bool) (text : List ℕ) (at : ℕ) → test text ≡ true → StopsAt test text at → ⊥

@@ -10,4 +10,5 @@ pub mod Memos
 pub mod MethodCode
 pub mod Methods
 pub mod Naming
+pub mod References
 pub mod Texts

@@ -1,8 +1,9 @@
 -- What is known of the texts of a constant pool, by their indexes, while they are taken into a table of names.
-use Rattle.std.specs.Prelude.{◌≡◌, ℕ, true, List, length, slice_get, Option, Some}
+use Rattle.std.specs.Prelude.{◌≡◌, ℕ, true, List, drop, length, slice_get, Option, Some}
 use Rattle.std.specs.List.{list_all}
 use Rattle.std.specs.Option.{option_flatten}
 use Rattle.fp_base.specs.Names.{has_name}
+use Rattle.fp_model.specs.declared.kind.Kind.{Kind}
 use Rattle.fp_model.specs.declared.raw.pool.Entry.{Entry}
 use Rattle.fp_model.specs.Descriptor.{descr_names, kind_names, IsDescrOf, IsKindOf}
 use Rattle.fp_model.specs.Entries.{text_at}
@@ -30,8 +31,16 @@ pub record IsSaidAt {X : Type 0} (Says : List ℕ → X → Type 0) (names_in : 
   pub says : Says text x
   pub held : list_all (has_name names) (names_in text) ≡ true
 
+-- what the name of an array class says of the elements, and the names in that
+abbrev pub IsElementOf : List (List ℕ) → List ℕ → Kind → Type 0
+IsElementOf names text k = IsKindOf names (drop 1 text) k
+
+abbrev pub element_names : List ℕ → List (List ℕ)
+element_names text = kind_names (drop 1 text)
+
 -- what is known is true
 pub record IsMemo (names : List (List ℕ)) (entries : List Entry) (memo : Memo) : Type 0 where
   pub numbers : AreKnown (IsTextNumber names entries) (length entries) memo.numbers.items
   pub kinds : AreKnown (IsSaidAt (IsKindOf names) kind_names names entries) (length entries) memo.kinds.items
+  pub elements : AreKnown (IsSaidAt (IsElementOf names) element_names names entries) (length entries) memo.elements.items
   pub descrs : AreKnown (IsSaidAt (IsDescrOf names) descr_names names entries) (length entries) memo.descrs.items

@@ -1,19 +1,18 @@
 //! The code of a method in numbers of a table of names.
-ghost use Rattle.std.specs.Prelude.{◌≡◌, ◌<◌, [], ◌∷◌, length, true, slice_get, IfOk};
+ghost use Rattle.std.specs.Prelude.{◌≡◌, ◌<◌, length, true, IfOk, OnOk};
 ghost use Rattle.std.specs.List.{flat_map, AllZip};
-ghost use Rattle.fp_class.specs.Interning.{IsParentName};
+ghost use Rattle.fp_class.specs.Memos.{IsMemo};
 ghost use Rattle.fp_class.specs.MethodCode.{code_texts, is_sound_code, row_texts, AreInstrsFrom, IsCodeOf, IsGuardOf};
-ghost use Rattle.fp_model.specs.Entries.{class_name_at};
-ghost use Rattle.fp_model.specs.Interning.{Interned};
 ghost use Rattle.fp_model.specs.Spelling.{spelled_ins};
 ghost use Rattle.fp_model.specs.Taking.{Taken};
 ghost use Rattle.fp_ops.specs.Checked.{are_sound_from};
 ghost use Rattle.fp_ops.specs.Forms.{instr_texts};
-ghost use Rattle.std.specs.Option.{option_to_list};
 
+use crate::forms::to_instr;
+use crate::memo::{Memo, empty_memo};
+use crate::naming::parent_name;
 use fp_base::{NameFault, Names};
-use fp_model::{BootRow, CatchRow, Code, Entry, Guard, Instr, Pool, RawCode, RawIns, look_up};
-use fp_ops::to_instr;
+use fp_model::{BootRow, CatchRow, Code, Entry, Guard, Instr, Pool, RawCode, RawIns};
 use sqlite_items::Items;
 use std::alloc::Global;
 
@@ -33,16 +32,19 @@ fn instructions(
     pool: &Pool,
     boots: &[BootRow],
     names: &mut Names,
+    memo: &mut Memo,
 ) -> Result<Items<(u16, Instr)>, NameFault>
     requires sound { are_sound_from pool.now.entries boots.now 0 code.now ≡ true }
     requires short { length (flat_map spelled_ins code.now) < 65536 }
+    requires memo { IsMemo names.old pool.now.entries memo.old }
     ensures instrs { IfOk result (λ instrs. AreInstrsFrom names.new pool.now.entries boots.now 0 instrs code.now) }
     ensures names { Taken result names.old names.new (flat_map (instr_texts pool.now.entries boots.now) code.now) }
+    ensures memo { OnOk result (IsMemo names.new pool.now.entries memo.new) }
 {
     let mut instrs = Vec::new(alloc);
     let mut pc = 0;
     for ins in code {
-        let instr = to_instr(alloc, ins, pc, pool, boots, names)?;
+        let instr = to_instr(alloc, ins, pc, pool, boots, names, memo)?;
         if instrs.push((pc, instr)).is_err() {
             return Err(NameFault::Memory);
         }
@@ -51,44 +53,20 @@ fn instructions(
     Ok(Items::from_vec(instrs))
 }
 
-/// The number of a text.
-fn number(alloc: Global, text: &[u8], names: &mut Names) -> Result<u32, NameFault>
-    ensures number { IfOk result (λ n. slice_get names.new n ≡ Some text.now) }
-    ensures names { Interned result names.old names.new (text.now ∷ []) }
-{
-    names.intern(alloc, text)
-}
-
-/// The number of the name of the class at an index, if there is one.
-fn caught(
-    alloc: Global,
-    entries: &[Entry],
-    index: u16,
-    names: &mut Names,
-) -> Result<Option<u32>, NameFault>
-    ensures class { IfOk result (λ n. IsParentName names.new entries.now n index) }
-    ensures names { Taken result names.old names.new (option_to_list (class_name_at entries.now index)) }
-{
-    match look_up::class_name(entries, index) {
-        Some(name) => match number(alloc, name, names) {
-            Ok(number) => Ok(Some(number)),
-            Err(fault) => Err(fault),
-        },
-        None => Ok(None),
-    }
-}
-
 /// A row of the exception table.
 fn guard(
     alloc: Global,
     entries: &[Entry],
     row: CatchRow,
     names: &mut Names,
+    memo: &mut Memo,
 ) -> Result<Guard, NameFault>
+    requires memo { IsMemo names.old entries.now memo.old }
     ensures guard { IfOk result (λ g. IsGuardOf names.new entries.now g row) }
     ensures names { Taken result names.old names.new (row_texts entries.now row) }
+    ensures memo { OnOk result (IsMemo names.new entries.now memo.new) }
 {
-    match caught(alloc, entries, row.class, names) {
+    match parent_name(alloc, entries, row.class, names, memo) {
         Ok(class) => Ok(Guard {
             start: row.start,
             end: row.end,
@@ -105,18 +83,52 @@ fn guards(
     entries: &[Entry],
     rows: &[CatchRow],
     names: &mut Names,
+    memo: &mut Memo,
 ) -> Result<Items<Guard>, NameFault>
+    requires memo { IsMemo names.old entries.now memo.old }
     ensures guards { IfOk result (λ guards. AllZip (IsGuardOf names.new entries.now) guards rows.now) }
     ensures names { Taken result names.old names.new (flat_map (row_texts entries.now) rows.now) }
+    ensures memo { OnOk result (IsMemo names.new entries.now memo.new) }
 {
     let mut guards = Vec::new(alloc);
     for row in rows {
-        let one = guard(alloc, entries, *row, names)?;
+        let one = guard(alloc, entries, *row, names, memo)?;
         if guards.push(one).is_err() {
             return Err(NameFault::Memory);
         }
     }
     Ok(Items::from_vec(guards))
+}
+
+/// The code of a method in numbers of a table of names, where what is known of the texts is kept.
+pub fn code_with(
+    alloc: Global,
+    code: &RawCode,
+    pool: &Pool,
+    boots: &[BootRow],
+    names: &mut Names,
+    memo: &mut Memo,
+) -> Result<Code, NameFault>
+    requires sound { is_sound_code pool.now.entries boots.now code.now ≡ true }
+    requires memo { IsMemo names.old pool.now.entries memo.old }
+    ensures code { IfOk result (λ c. IsCodeOf names.new pool.now.entries boots.now c code.now) }
+    ensures names { Taken result names.old names.new (code_texts pool.now.entries boots.now code.now) }
+    ensures memo { OnOk result (IsMemo names.new pool.now.entries memo.new) }
+{
+    let instrs = instructions(alloc, code.code.as_slice(), pool, boots, names, memo)?;
+    let rows = guards(
+        alloc,
+        pool.entries.as_slice(),
+        code.rows.as_slice(),
+        names,
+        memo,
+    )?;
+    Ok(Code {
+        instrs,
+        rows,
+        max_stack: code.max_stack,
+        max_locals: code.max_locals,
+    })
 }
 
 /// The code of a method in numbers of a table of names, which takes the names that the code has (JVMS SE 21 section 4.7.3).
@@ -134,12 +146,8 @@ pub fn to_code(
     ensures code { IfOk result (λ c. IsCodeOf names.new pool.now.entries boots.now c code.now) }
     ensures names { Taken result names.old names.new (code_texts pool.now.entries boots.now code.now) }
 {
-    let instrs = instructions(alloc, code.code.as_slice(), pool, boots, names)?;
-    let rows = guards(alloc, pool.entries.as_slice(), code.rows.as_slice(), names)?;
-    Ok(Code {
-        instrs,
-        rows,
-        max_stack: code.max_stack,
-        max_locals: code.max_locals,
-    })
+    let Ok(mut memo) = empty_memo(alloc, pool.entries.as_slice()) else {
+        return Err(NameFault::Memory);
+    };
+    code_with(alloc, code, pool, boots, names, &mut memo)
 }

@@ -12,7 +12,7 @@ use sqlite_items::Items;
 use std::alloc::{AllocError, Global};
 use std::test::Fail;
 
-/// The field `A.x` of descriptor `I` at 6, and the class `E` at 8.
+/// The field `A.x` of descriptor `I` at 6, the class `E` at 8, and the method `A.m` of descriptor `(I[LA;)V` at 12.
 fn pool(alloc: Global) -> Result<Pool, AllocError> {
     let mut entries = Vec::new(alloc);
     entries.push(Entry::Unused)?;
@@ -24,6 +24,10 @@ fn pool(alloc: Global) -> Result<Pool, AllocError> {
     entries.push(Entry::FieldRef { class: 2, pair: 5 })?;
     entries.push(Entry::Utf8(Items::from_slice(alloc, b"E")?))?;
     entries.push(Entry::Class(7))?;
+    entries.push(Entry::Utf8(Items::from_slice(alloc, b"m")?))?;
+    entries.push(Entry::Utf8(Items::from_slice(alloc, b"(I[LA;)V")?))?;
+    entries.push(Entry::Pair { name: 9, descr: 10 })?;
+    entries.push(Entry::MethodRef { class: 2, pair: 11 })?;
     Ok(Pool {
         entries: Items::from_vec(entries),
     })
@@ -61,11 +65,13 @@ fn ins(alloc: Global, op: u8, args: &[u8]) -> Result<RawIns, AllocError> {
     })
 }
 
-/// `aload_0`, `getfield`, `ireturn`; the first two are guarded, for `E` and for any class.
+/// `aload_0`, `getfield`, `invokestatic`, `invokespecial` of the same method, `ireturn`; the first two are guarded, for `E` and for any class.
 fn code(alloc: Global) -> Result<RawCode, AllocError> {
     let mut code = Vec::new(alloc);
     code.push(ins(alloc, 42, b"")?)?;
     code.push(ins(alloc, 180, b"\0\x06")?)?;
+    code.push(ins(alloc, 184, b"\0\x0C")?)?;
+    code.push(ins(alloc, 183, b"\0\x0C")?)?;
     code.push(ins(alloc, 172, b"")?)?;
     let mut rows = Vec::new(alloc);
     for class in [8, 0] {
@@ -110,7 +116,7 @@ fn a_code_is_numbered(rt: HostRuntime) -> Result<(), Fail> {
     assert_eq!(rt;
         text.as_deref(),
         Some(
-            "Code { instrs: Items { items: [(0, Load { sort: Ref, at: 0 }), (1, GetField { class: 0, name: 1, descr: 2, kind: Int(73) }), (4, Return { op: 172 })] }, rows: Items { items: [Guard { start: 0, end: 4, handler: 1, class: Some(3) }, Guard { start: 0, end: 4, handler: 1, class: None }] }, max_stack: 2, max_locals: 1 }",
+            "Code { instrs: Items { items: [(0, Load { sort: Ref, at: 0 }), (1, GetField { class: 0, name: 1, descr: 2, kind: Int(73) }), (4, InvokeStatic { class: 0, name: 3, descr: 4, kinds: Descr { args: Items { items: [Int(73), Array(1, Class(0))] }, result: None } }), (7, InvokeSpecial { class: 0, name: 3, descr: 4, kinds: Descr { args: Items { items: [Int(73), Array(1, Class(0))] }, result: None } }), (10, Return { op: 172 })] }, rows: Items { items: [Guard { start: 0, end: 4, handler: 1, class: Some(5) }, Guard { start: 0, end: 4, handler: 1, class: None }] }, max_stack: 2, max_locals: 1 }",
         )
     );
     Ok(())

@@ -4,6 +4,9 @@
 mod code;
 mod descriptors;
 mod file;
+mod forms;
+mod instrs;
+mod kinds;
 mod law;
 mod layout;
 mod members;
@@ -11,6 +14,8 @@ mod memo;
 mod methods;
 mod naming;
 mod numbers;
+mod references;
+mod sites;
 mod texts;
 
 pub use code::to_code;

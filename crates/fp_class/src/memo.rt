@@ -11,6 +11,8 @@ use std::alloc::{AllocError, Global};
 pub struct Memo {
     pub numbers: Vec<Option<u32>>,
     pub kinds: Vec<Option<Kind>>,
+    /// What the names of array classes say of the elements.
+    pub elements: Vec<Option<Kind>>,
     pub descrs: Vec<Option<Descr>>,
 }
 
@@ -20,10 +22,12 @@ pub fn empty_memo(alloc: Global, entries: &[Entry]) -> Result<Memo, AllocError>
 {
     let numbers = vec![in alloc; None; entries.len()]?;
     let kinds = vec![in alloc; None; entries.len()]?;
+    let elements = vec![in alloc; None; entries.len()]?;
     let descrs = no_descrs(alloc, entries.len())?;
     Ok(Memo {
         numbers,
         kinds,
+        elements,
         descrs,
     })
 }
@@ -53,6 +57,13 @@ pub fn known_kind(memo: &Memo, index: u16) -> Option<Kind>
     memo.kinds.get(index as usize).copied().flatten()
 }
 
+/// The kind that the name of an array class at an index says of the elements, if it is known.
+pub fn known_element(memo: &Memo, index: u16) -> Option<Kind>
+    ensures { result ≡ known_at memo.now.elements.items index }
+{
+    memo.elements.get(index as usize).copied().flatten()
+}
+
 /// What the method descriptor at an index says, if it is known.
 pub fn known_descr(memo: &Memo, index: u16) -> Option<&Descr>
     ensures { option_copied result ≡ known_at memo.now.descrs.items index }
@@ -79,6 +90,7 @@ pub fn keep_number(memo: &mut Memo, index: u16, number: u32)
     requires { index < length memo.old.numbers.items }
     ensures numbers { memo.new.numbers.items ≡ set memo.old.numbers.items index (Some number) }
     ensures kinds { memo.new.kinds.items ≡ memo.old.kinds.items }
+    ensures elements { memo.new.elements.items ≡ memo.old.elements.items }
     ensures descrs { memo.new.descrs.items ≡ memo.old.descrs.items }
 {
     memo.numbers[index as usize] = Some(number);
@@ -89,9 +101,21 @@ pub fn keep_kind(memo: &mut Memo, index: u16, kind: Kind)
     requires { index < length memo.old.kinds.items }
     ensures kinds { memo.new.kinds.items ≡ set memo.old.kinds.items index (Some kind) }
     ensures numbers { memo.new.numbers.items ≡ memo.old.numbers.items }
+    ensures elements { memo.new.elements.items ≡ memo.old.elements.items }
     ensures descrs { memo.new.descrs.items ≡ memo.old.descrs.items }
 {
     memo.kinds[index as usize] = Some(kind);
+}
+
+/// Keeps the kind that the name of an array class at an index says of the elements.
+pub fn keep_element(memo: &mut Memo, index: u16, kind: Kind)
+    requires { index < length memo.old.elements.items }
+    ensures elements { memo.new.elements.items ≡ set memo.old.elements.items index (Some kind) }
+    ensures numbers { memo.new.numbers.items ≡ memo.old.numbers.items }
+    ensures kinds { memo.new.kinds.items ≡ memo.old.kinds.items }
+    ensures descrs { memo.new.descrs.items ≡ memo.old.descrs.items }
+{
+    memo.elements[index as usize] = Some(kind);
 }
 
 /// Keeps what the method descriptor at an index says.
@@ -100,6 +124,7 @@ pub fn keep_descr(memo: &mut Memo, index: u16, descr: Descr)
     ensures descrs { memo.new.descrs.items ≡ set memo.old.descrs.items index (Some descr) }
     ensures numbers { memo.new.numbers.items ≡ memo.old.numbers.items }
     ensures kinds { memo.new.kinds.items ≡ memo.old.kinds.items }
+    ensures elements { memo.new.elements.items ≡ memo.old.elements.items }
 {
     memo.descrs[index as usize] = Some(descr);
 }

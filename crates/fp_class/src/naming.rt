@@ -1,10 +1,9 @@
 //! Class files in numbers of a table of names.
-ghost use Rattle.std.specs.Prelude.{◌≡◌, All, ◌^◌, ◌<◌, ◌↔◌, IsNone, [], ◌∷◌, length, true, slice_get, unwrap_or, is_some, IsTrue, IfOk, IfSome, OnOk};
+ghost use Rattle.std.specs.Prelude.{◌≡◌, All, ◌↔◌, IsNone, [], ◌∷◌, true, slice_get, unwrap_or, is_some, IsTrue, IfOk, IfSome, OnOk};
 ghost use Rattle.std.specs.List.{list_all, flat_map, AllZip};
 ghost use Rattle.std.specs.Option.{option_to_list};
 ghost use Rattle.fp_class.specs.Classes.{field_names, raw_names, IsClassOf};
-ghost use Rattle.fp_model.specs.Descriptor.{is_field_descriptor, kind_names, IsKindOf};
-ghost use Rattle.fp_model.specs.Entries.{passes, class_name_at, is_class_index, text_at};
+ghost use Rattle.fp_model.specs.Entries.{class_name_at, is_class_index, text_at};
 ghost use Rattle.fp_model.specs.Interning.{Interned};
 ghost use Rattle.fp_model.specs.SoundCode.{IsSoundMethod};
 ghost use Rattle.fp_model.specs.Taking.{Taken};
@@ -15,10 +14,11 @@ ghost use Rattle.fp_class.specs.Memos.{IsMemo};
 ghost use Rattle.fp_class.specs.Naming.{is_sound_field, taken_names};
 
 use crate::file::boot_rows;
-use crate::memo::{Memo, empty_memo, keep_kind, keep_number, known_kind, known_number};
+use crate::kinds::kind_at;
+use crate::memo::{Memo, empty_memo, keep_number, known_number};
 use crate::methods::methods;
 use fp_base::{NameFault, Names};
-use fp_model::{Class, DescrFault, Entry, Field, Kind, Raw, RawMember, look_up, read_kind};
+use fp_model::{Class, Entry, Field, Raw, RawMember, look_up};
 use sqlite_items::{Items, at};
 use std::alloc::Global;
 
@@ -69,7 +69,7 @@ pub fn text(
 }
 
 /// The number of the name of the class at an index.
-fn class_name(
+pub fn class_name(
     alloc: Global,
     entries: &[Entry],
     index: u16,
@@ -89,7 +89,7 @@ fn class_name(
 }
 
 /// The number of the name of the superclass, if there is one.
-fn parent_name(
+pub fn parent_name(
     alloc: Global,
     entries: &[Entry],
     index: u16,
@@ -132,66 +132,6 @@ fn class_names(
         }
     }
     Ok(Items::from_vec(numbers))
-}
-
-/// The kind that a field descriptor says.
-fn kind(alloc: Global, descr: &[u8], names: &mut Names) -> Result<Kind, NameFault>
-    requires descr { is_field_descriptor descr.now ≡ true }
-    requires short { length descr.now < 2 ^ 31 }
-    ensures kind { IfOk result (IsKindOf names.new descr.now) }
-    ensures names { Interned result names.old names.new (kind_names descr.now) }
-{
-    match read_kind(alloc, descr, names) {
-        Ok(kind) => Ok(kind),
-        Err(DescrFault::Full) => Err(NameFault::Full),
-        Err(DescrFault::Memory) => Err(NameFault::Memory),
-        Err(DescrFault::Bad { .. }) => unreachable!(),
-    }
-}
-
-/// The kind that the descriptor at an index says, whatever is known of it.
-fn read_kind_at(
-    alloc: Global,
-    entries: &[Entry],
-    index: u16,
-    names: &mut Names,
-) -> Result<Kind, NameFault>
-    requires pool { IsTrue (list_all is_short_entry entries.now) }
-    requires descr { passes is_field_descriptor (text_at entries.now index) ≡ true }
-    ensures kind { IfOk result (IsKindOf names.new (unwrap_or (text_at entries.now index) [])) }
-    ensures names { Interned result names.old names.new (kind_names (unwrap_or (text_at entries.now index) [])) }
-{
-    match look_up::text(entries, index) {
-        Some(descr) => kind(alloc, descr, names),
-        None => unreachable!(),
-    }
-}
-
-/// The kind that the descriptor at an index says, which is then known.
-fn kind_at(
-    alloc: Global,
-    entries: &[Entry],
-    index: u16,
-    names: &mut Names,
-    memo: &mut Memo,
-) -> Result<Kind, NameFault>
-    requires pool { IsTrue (list_all is_short_entry entries.now) }
-    requires descr { passes is_field_descriptor (text_at entries.now index) ≡ true }
-    requires memo { IsMemo names.old entries.now memo.old }
-    ensures kind { IfOk result (IsKindOf names.new (unwrap_or (text_at entries.now index) [])) }
-    ensures names { Interned result names.old names.new (kind_names (unwrap_or (text_at entries.now index) [])) }
-    ensures memo { OnOk result (IsMemo names.new entries.now memo.new) }
-{
-    if let Some(kind) = known_kind(memo, index) {
-        return Ok(kind);
-    }
-    match read_kind_at(alloc, entries, index, names) {
-        Ok(kind) => {
-            keep_kind(memo, index, kind);
-            Ok(kind)
-        }
-        Err(fault) => Err(fault),
-    }
 }
 
 /// A field in numbers of the table.

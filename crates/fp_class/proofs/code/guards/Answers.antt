@@ -45,6 +45,7 @@ loop-row-preserved c =
           (AllZip-more (IsGuardOf c.guard.new.names c.args.entries.now) _ _ c.in_ok-one.one row
           (AllZip-to (IsGuardOf c.loop-row.names c.args.entries.now) (IsGuardOf c.guard.new.names c.args.entries.now) _ _ (λ g row one. IsGuardOf-kept c.loop-row.names c.guard.new.names c.args.entries.now g row kept one) c.loop-row.invariant.guards)
           c.in_ok-one.ensures.guard);
+      memo = c.in_ok-one.ensures.memo;
     }
 
 pub returns-clause-names : goal.returns-clause-names

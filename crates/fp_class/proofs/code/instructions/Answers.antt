@@ -10,8 +10,8 @@ use Rattle.fp_class.proofs.Tables.{front_of, names_more, pushed}
 use Rattle.fp_class.proofs.TakenTexts.{all_taken, one_stops}
 use Rattle.fp_class.proofs.code.instructions.Goals as goal
 
-pub to_instr-requires : goal.to_instr-requires
-to_instr-requires c = (sound_next c.args.pool.now.entries c.args.boots.now c.loop-ins.pc c.args.code.now c.loop-ins.ins-index c.ins-item.result c.loop-ins-test.true c.ins-item.is c.loop-ins.invariant.sound).0
+pub to_instr-requires-clause-sound : goal.to_instr-requires-clause-sound
+to_instr-requires-clause-sound c = (sound_next c.args.pool.now.entries c.args.boots.now c.loop-ins.pc c.args.code.now c.loop-ins.ins-index c.ins-item.result c.loop-ins-test.true c.ins-item.is c.loop-ins.invariant.sound).0
 
 pub returns-in_err-instr-clause-names : goal.returns-in_err-instr-clause-names
 returns-in_err-instr-clause-names c =
@@ -40,6 +40,7 @@ loop-ins-preserved c =
           (AreInstrsFrom-more c.to_instr.new.names c.args.pool.now.entries c.args.boots.now 0 c.loop-ins.pc c.loop-ins.instrs.items (take c.loop-ins.ins-index c.args.code.now) c.in_ok-instr.instr c.ins-item.result
           (AreInstrsFrom-kept c.loop-ins.names c.to_instr.new.names kept c.args.pool.now.entries c.args.boots.now 0 c.loop-ins.instrs.items (take c.loop-ins.ins-index c.args.code.now) c.loop-ins.invariant.instrs)
           (omega (arith, c.loop-ins.invariant.at)) c.in_ok-instr.ensures.instr);
+      memo = c.in_ok-instr.ensures.memo;
     }
 
 pub returns-clause-names : goal.returns-clause-names

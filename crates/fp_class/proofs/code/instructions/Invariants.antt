@@ -1,6 +1,7 @@
 use Rattle.std.proofs.Common.{◌≡◌, ◌+◌, true, length, drop, take}
 use Rattle.std.specs.List.{flat_map}
 use Rattle.fp_base.specs.Names.{with_names}
+use Rattle.fp_class.specs.Memos.{IsMemo}
 use Rattle.fp_class.specs.MethodCode.{AreInstrsFrom}
 use Rattle.fp_model.specs.Spelling.{spelled_ins}
 use Rattle.fp_ops.specs.Checked.{are_sound_from}
@@ -15,4 +16,5 @@ invariant-loop-ins l = record {
   sound : are_sound_from l.pool.entries l.boots l.pc (drop l.ins-index l.code) ≡ true;
   names : l.names ≡ with_names l.fn.names (flat_map (instr_texts l.pool.entries l.boots) (take l.ins-index l.code));
   instrs : AreInstrsFrom l.names l.pool.entries l.boots 0 l.instrs.items (take l.ins-index l.code);
+  memo : IsMemo l.names l.pool.entries l.memo;
 }

@@ -1,9 +1,10 @@
 use Rattle.std.proofs.Common.{[], ◌∷◌, Err}
+use Rattle.std.proofs.lemmas.Bool.{and_parts}
 use Rattle.std.proofs.lemmas.Result.{err_from_is_err_and}
-use Rattle.std.specs.Option.{unwrap_or}
-use Rattle.fp_model.specs.Descriptor.{kind_names}
-use Rattle.fp_model.specs.Entries.{text_at}
-use Rattle.fp_class.proofs.NamedParts.{field_named}
+use Rattle.std.specs.Option.{is_some, unwrap_or}
+use Rattle.fp_model.specs.Descriptor.{is_field_descriptor, kind_names}
+use Rattle.fp_model.specs.Entries.{passes, text_at}
+use Rattle.fp_class.proofs.NamedParts.{entry_passes, field_named}
 use Rattle.fp_model.proofs.Interned.{after_one, interned_stop, interned_then, interned_as, kept_by}
 use Rattle.fp_class.proofs.naming.field.Goals as goal
 
@@ -36,3 +37,8 @@ pub returns-clause-field : goal.returns-clause-field
 returns-clause-field c =
     field_named c.text.new.names c.text-2.new.names c.kind_at.new.names c.args.entries.now c.args.member.now c.in_ok-name.name c.in_ok-descr.descr c.in_ok-kind.kind c.requires.sound
     c.in_ok-name.ensures.number (kept_by _ _ _ _ c.in_ok-descr.ensures.names) c.in_ok-descr.ensures.number (kept_by _ _ _ _ c.in_ok-kind.ensures.names) c.in_ok-kind.ensures.kind
+
+pub kind_at-requires-clause-descr : goal.kind_at-requires-clause-descr
+kind_at-requires-clause-descr c =
+    entry_passes is_field_descriptor c.args.entries.now c.args.member.now.descr c.requires.pool
+    (and_parts (is_some (text_at c.args.entries.now c.args.member.now.name)) (passes is_field_descriptor (text_at c.args.entries.now c.args.member.now.descr)) c.requires.sound).1

@@ -17,4 +17,4 @@ pub returns-in-Ok-clause-memo : goal.returns-in-Ok-clause-memo
 returns-in-Ok-clause-memo c =
     number_noted c.args.names.now c.intern_text.new.names c.args.entries.now c.args.memo.now c.keep_number.new.memo c.args.index
     c.requires.memo c.requires.there (unwrap_or (text_at c.args.entries.now c.args.index) [] ∷ []) c.in-Ok.number
-    c.in-Ok.ensures.names c.in-Ok.ensures.number c.keep_number.ensures.numbers c.keep_number.ensures.kinds c.keep_number.ensures.descrs
+    c.in-Ok.ensures.names c.in-Ok.ensures.number c.keep_number.ensures.numbers c.keep_number.ensures.kinds c.keep_number.ensures.elements c.keep_number.ensures.descrs

@@ -2,7 +2,7 @@ use Rattle.std.proofs.Common.{Err, ap}
 use Rattle.fp_model.specs.Descriptor.{is_field_descriptor, kind_names}
 use Rattle.fp_class.proofs.NamedParts.{not_bad}
 use Rattle.fp_model.proofs.Interned.{interned_full, interned_ok}
-use Rattle.fp_class.proofs.naming.kind.Goals as goal
+use Rattle.fp_class.proofs.kinds.kind.Goals as goal
 
 pub unreachable-requires : goal.unreachable-requires
 unreachable-requires c = not_bad is_field_descriptor c.args.descr.now c.in-Err-Bad.field-0-0 c.requires.descr (c.in-Err-Bad.ensures.bad_at c.in-Err-Bad.field-0-0 (ap Err c.in-Err-Bad.field-0-is))
