@@ -456,6 +456,50 @@ fn reads_the_class_files_of_a_directory(rt: HostRuntime) -> Result<(), Fail> {
     Ok(())
 }
 
+/// An entry of a constant pool that is a text, shorter than 256 bytes.
+fn push_text(text: &str, bytes: &mut Vec<u8>) -> Result<(), AllocError> {
+    bytes.extend_from_slice(&[1, 0, u8::try_from(text.len()).unwrap_or(0)])?;
+    bytes.extend_from_slice(text.as_bytes())
+}
+
+/// A class of this name that extends another.
+fn class_file(alloc: Global, name: &str, parent: &str) -> Result<Vec<u8>, AllocError> {
+    let mut bytes = Vec::from_slice(alloc, &[0xCA, 0xFE, 0xBA, 0xBE, 0, 0, 0, 0x34, 0, 5])?;
+    push_text(name, &mut bytes)?;
+    bytes.extend_from_slice(&[7, 0, 1])?;
+    push_text(parent, &mut bytes)?;
+    bytes.extend_from_slice(&[7, 0, 3, 0, 0x21, 0, 2, 0, 4])?;
+    bytes.extend_from_slice(&[0; 8])?;
+    Ok(bytes)
+}
+
+/// So many classes, each of which extends the one before it.
+fn chain(alloc: Global, count: u32) -> Result<Vec<(String, Vec<u8>)>, AllocError> {
+    let mut files = Vec::new(alloc);
+    let mut parent = String::from_str(alloc, "java/lang/Object")?;
+    for number in 0..count {
+        let name = format!(in alloc; "C{number}")?;
+        let path = format!(in alloc; "d/{name}.class")?;
+        files.push((path, class_file(alloc, name.as_str(), parent.as_str())?))?;
+        parent = name;
+    }
+    Ok(files)
+}
+
+#[test]
+fn reads_a_chain_of_two_thousand_classes(rt: HostRuntime) -> Result<(), Fail> {
+    let alloc = rt.alloc();
+    let files = chain(alloc, 2_000)?;
+    let ending = run(&rt, alloc, &WORDS, files, Vec::new(alloc), Vec::new(alloc))?;
+    assert_eq!(rt; ending.status, Status::Done);
+    assert!(rt;
+        ending.out.starts_with(b"declared C0 final\ndeclared C1 final\ndeclared C10 final\n")
+    );
+    assert!(rt; ending.out.ends_with(b"declared C999 final\ncells 2000\n"));
+    assert!(rt; ending.err.is_empty());
+    Ok(())
+}
+
 /// The words of a run that shows these items.
 fn showing<'a>(analyses: &'a str, show: &'a str) -> [&'a str; 7] {
     [
