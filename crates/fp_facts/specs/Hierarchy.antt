@@ -56,14 +56,26 @@ met_from classes zero met names = met
 met_from classes (suc levels) met names =
     fold (λ seen name. if has_number seen name then seen else met_from classes levels (seen ++ name ∷ []) (superinterfaces_of classes name)) met names
 
-abbrev pub with_superinterfaces : List Class → (met names : List ℕ) → List ℕ
-with_superinterfaces classes met names = met_from classes (length classes + 1) met names
+-- the superinterfaces of a class by its own list, each name once; interfaces that lead in a ring end by being met
+abbrev pub superinterfaces : List Class → Class → List ℕ
+superinterfaces classes c = met_from classes (length classes + 1) [] c.interfaces
 
--- the ancestors of a class: its superclasses from the nearest up, and then the superinterfaces of the class and of these
+-- the classes of the set among names, by their numbers
+abbrev pub classes_among : List Class → List ℕ → List ℕ
+classes_among classes names = flat_map (λ name. option_to_list (class_named classes name)) names
+
+-- a class of the set and its superclasses in the set, by their numbers
+abbrev pub class_and_above : List Class → Class → List ℕ
+class_and_above classes c = classes_among classes (c.name ∷ superclasses classes c)
+
+-- the superinterfaces of the class of a number
+abbrev pub superinterfaces_at : List Class → ℕ → List ℕ
+superinterfaces_at classes id = option_map_or (superinterfaces classes) (slice_get classes id) []
+
+-- the ancestors of a class in the order in which they are looked through: its superclasses from the nearest up, and then the
+-- superinterfaces of the class and of these; what a name gives is given where it stands first
 abbrev pub ancestors : List Class → Class → List ℕ
-ancestors classes c =
-    let above = superclasses classes c in
-    with_superinterfaces classes above (c.interfaces ++ flat_map (superinterfaces_of classes) above)
+ancestors classes c = superclasses classes c ++ flat_map (superinterfaces_at classes) (class_and_above classes c)
 
 -- ---- which names a class goes by
 
@@ -80,7 +92,3 @@ abbrev pub may_fit : SetView → Class → ℕ → Bool
 may_fit set c name =
     fits set.classes c name
     || (is_outside set.classes name && (not (is_array_name set.names name) && has_outside_ancestor set c))
-
--- the classes of the set among names, by their numbers
-abbrev pub classes_among : List Class → List ℕ → List ℕ
-classes_among classes names = flat_map (λ name. option_to_list (class_named classes name)) names

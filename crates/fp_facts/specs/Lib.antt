@@ -1,6 +1,16 @@
+pub mod Bits
 pub mod Dataflow
+pub mod Edges
+pub mod Effects
 pub mod Frames
 pub mod Hierarchy
+pub mod Initialisation
+pub mod Kinded
 pub mod Lattices
+pub mod Moves
+pub mod Origins
 pub mod Resolution
+pub mod Seeds
 pub mod Selection
+pub mod Sorts
+pub mod Transfer

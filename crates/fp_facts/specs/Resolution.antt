@@ -1,13 +1,12 @@
 -- Which declaration a reference means (JVMS SE 21 sections 5.4.3.2 to 5.4.3.4), by a name and a descriptor.
-use Rattle.std.specs.Prelude.{ℕ, ◌+◌, ◌==◌, Bool, false, not, ◌&&◌, List, [], ◌∷◌, ◌++◌, fold, filter, position, bit_and, is_some, slice_get, Option, Some, None, option_map, option_and_then, if◌then◌else◌}
-use Rattle.std.specs.List.{flat_map}
+use Rattle.std.specs.Prelude.{ℕ, ◌+◌, ◌==◌, nat_lt, Bool, false, not, ◌&&◌, List, [], ◌∷◌, filter, length, position, bit_and, is_some, slice_get, Option, None, option_map, option_and_then}
+use Rattle.std.specs.List.{flat_map, range_with_len}
 use Rattle.std.specs.Option.{option_map_or, option_or, option_to_list}
 use Rattle.fp_model.specs.declared.class.Class.{Class}
-use Rattle.fp_model.specs.declared.class.Field.{Field}
 use Rattle.fp_model.specs.declared.class.Method.{Method}
-use Rattle.fp_model.specs.ClassSet.{class_named, first_field_of, first_method_of, methods_of}
+use Rattle.fp_model.specs.ClassSet.{first_field_of, first_method_of, methods_of}
 use Rattle.fp_model.specs.Flags.{is_static}
-use Rattle.fp_facts.specs.Hierarchy.{ancestors, class_of_name, classes_among, has_number, is_interface, superclasses, superinterfaces_of, with_superinterfaces}
+use Rattle.fp_facts.specs.Hierarchy.{ancestors, class_and_above, class_of_name, classes_among, is_interface, superinterfaces_at}
 
 -- ---- declarations
 
@@ -24,6 +23,13 @@ has_code m = is_some m.code
 -- neither private nor static
 abbrev pub is_open : Method → Bool
 is_open m = not (is_private m) && not (is_static m.flags)
+
+-- the class that declares the field of a number, or the method
+abbrev pub class_of_field : List Class → ℕ → Option ℕ
+class_of_field classes id = position (λ class. nat_lt id (first_field_of classes (class + 1))) (range_with_len 0 (length classes))
+
+abbrev pub class_of_method : List Class → ℕ → Option ℕ
+class_of_method classes id = position (λ class. nat_lt id (first_method_of classes (class + 1))) (range_with_len 0 (length classes))
 
 -- the method of a number
 abbrev pub method_at : List Class → ℕ → Option Method
@@ -47,19 +53,13 @@ first_given give (class ∷ classes) = option_or (give class) (first_given give 
 
 -- ---- the classes that are looked at
 
--- a class of the set and its superclasses in the set, by their numbers
-abbrev pub class_and_above : List Class → Class → List ℕ
-class_and_above classes c = classes_among classes (c.name ∷ superclasses classes c)
-
 -- the interfaces of the set among a class's ancestors
 abbrev pub interfaces_above : List Class → Class → List ℕ
 interfaces_above classes c = filter (λ id. option_map_or is_interface (slice_get classes id) false) (classes_among classes (ancestors classes c))
 
--- a class, its superinterfaces depth first, its superclass, and so on up; a class that was met is passed over
-abbrev pub field_holders : List Class → Class → List ℕ
-field_holders classes c =
-    classes_among classes
-    (fold (λ met name. if has_number met name then met else with_superinterfaces classes (met ++ name ∷ []) (superinterfaces_of classes name)) [] (c.name ∷ superclasses classes c))
+-- a class and its superinterfaces in the set
+abbrev pub class_and_superinterfaces : List Class → ℕ → List ℕ
+class_and_superinterfaces classes id = id ∷ classes_among classes (superinterfaces_at classes id)
 
 -- ---- resolution
 
@@ -84,5 +84,10 @@ resolved_method classes c name descr =
 abbrev pub resolve_method : List Class → (class name descr : ℕ) → Option ℕ
 resolve_method classes class name descr = option_and_then (λ c. resolved_method classes c name descr) (class_of_name classes class)
 
+-- the field that a reference to a class of the set means: of the class, its superinterfaces, its superclass and so on up
+abbrev pub resolved_field : List Class → Class → (name descr : ℕ) → Option ℕ
+resolved_field classes c name descr =
+    first_given (λ id. first_given (declared_field classes name descr) (class_and_superinterfaces classes id)) (class_and_above classes c)
+
 abbrev pub resolve_field : List Class → (class name descr : ℕ) → Option ℕ
-resolve_field classes class name descr = option_and_then (λ c. first_given (declared_field classes name descr) (field_holders classes c)) (class_of_name classes class)
+resolve_field classes class name descr = option_and_then (λ c. resolved_field classes c name descr) (class_of_name classes class)

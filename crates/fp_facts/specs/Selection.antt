@@ -1,17 +1,17 @@
 -- Which methods a call can reach (JVMS SE 21 sections 5.4.6 and 6.5), as far as the set tells.
-use Rattle.std.specs.Prelude.{ℕ, ◌+◌, ◌==◌, nat_lt, Bool, true, false, not, ◌&&◌, ◌||◌, List, [], ◌∷◌, ◌++◌, length, map, filter, codes, is_some, Option, Some, None, option_and_then, slice_get, if◌then◌else◌}
-use Rattle.std.specs.List.{flat_map, list_any, range_with_len}
-use Rattle.std.specs.Option.{option_map_or, option_to_list}
+use Rattle.std.specs.Prelude.{ℕ, ◌+◌, ◌==◌, nat_lt, Bool, true, false, not, ◌&&◌, ◌||◌, List, [], ◌∷◌, ◌++◌, length, map, filter, codes, Option, Some, None, option_and_then, slice_get, if◌then◌else◌}
+use Rattle.std.specs.List.{flat_map, range_with_len}
+use Rattle.std.specs.Option.{option_map_or}
 use Rattle.std.specs.Str.{bytes_eq}
 use Rattle.fp_model.specs.declared.class.Class.{Class}
 use Rattle.fp_model.specs.declared.class.Method.{Method}
 use Rattle.fp_model.specs.declared.class.instr.Instr.{Instr}
 use Rattle.fp_model.specs.declared.class.instr.Instr.TheVariants as instr
-use Rattle.fp_model.specs.ClassSet.{SetView, class_named}
+use Rattle.fp_model.specs.ClassSet.{SetView}
 use Rattle.fp_model.specs.Descriptor.{text_of}
 use Rattle.fp_model.specs.Flags.{is_static}
-use Rattle.fp_facts.specs.Hierarchy.{class_of_name, has_number, has_outside_ancestor, is_concrete, is_object, is_outside, may_fit, superclasses}
-use Rattle.fp_facts.specs.Resolution.{class_and_above, declared_method, first_of, has_code, interfaces_above, is_native, is_open, is_private, method_at, methods_among, resolve_method}
+use Rattle.fp_facts.specs.Hierarchy.{class_and_above, class_of_name, has_number, has_outside_ancestor, is_concrete, is_object, is_outside, may_fit, superclasses}
+use Rattle.fp_facts.specs.Resolution.{class_of_method, first_of, has_code, interfaces_above, is_native, is_open, is_private, method_at, methods_among, resolve_method}
 
 -- what a call can reach: methods of the set, and the outside
 pub record Reached : Type 0 where
@@ -53,6 +53,10 @@ abbrev pub selected : SetView → Class → (name descr : ℕ) → Reached
 selected set c name descr =
     option_map_or (found_at set.classes) (instance_declaration set.classes c name descr)
     (with_defaults set c (default_methods set.classes c name descr))
+
+-- the same by the number of the class
+abbrev pub selected_at : SetView → (class name descr : ℕ) → Reached
+selected_at set class name descr = option_map_or (λ c. selected set c name descr) (slice_get set.classes class) nothing
 
 -- ---- calls, by their forms (section 6.5)
 
@@ -105,7 +109,7 @@ fixed reached = record { always = reached; by_class = [] }
 abbrev pub dispatched : SetView → (class name descr : ℕ) → Candidates
 dispatched set class name descr = record {
   always = record { methods = []; outside = is_outside set.classes class };
-  by_class = flat_map (λ id. map (λ c. (id, selected set c name descr)) (option_to_list (slice_get set.classes id))) (receivers set class);
+  by_class = map (λ id. (id, selected_at set id name descr)) (receivers set class);
 }
 
 -- an `invokevirtual` or `invokeinterface`
@@ -123,13 +127,22 @@ candidates_of set caller (instr.InvokeInterface class name descr kinds) = virtua
 candidates_of set caller (instr.InvokeDynamic name descr boot args) = fixed outside
 candidates_of set caller _ = fixed nothing
 
+-- those of an instruction of the method of a number
+abbrev pub candidates_at : SetView → (caller : ℕ) → Instr → Candidates
+candidates_at set caller i =
+    option_map_or (λ c. candidates_of set c i) (option_and_then (slice_get set.classes) (class_of_method set.classes caller)) (fixed nothing)
+
 -- all methods of the set that it can reach, whatever is made
 abbrev pub all_reached : Candidates → List ℕ
 all_reached candidates = candidates.always.methods ++ flat_map (λ c. c.1.methods) candidates.by_class
 
--- the target list of a set with so many methods: those that can be reached, ascending; a bit for each, and then that of the outside
+-- those of a set's numbers that stand in a list, ascending and each once
+abbrev pub ascending_among : (numbers : ℕ) → List ℕ → List ℕ
+ascending_among numbers list = filter (has_number list) (range_with_len 0 numbers)
+
+-- the target list of a set with so many methods: those that can be reached; a bit for each, and then that of the outside
 abbrev pub target_list : (methods : ℕ) → Candidates → List ℕ
-target_list methods candidates = filter (has_number (all_reached candidates)) (range_with_len 0 methods)
+target_list methods candidates = ascending_among methods (all_reached candidates)
 
 -- the bits of what is reached
 abbrev pub bits_of : List ℕ → Reached → List ℕ
