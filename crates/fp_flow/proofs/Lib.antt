@@ -1,0 +1,7 @@
+mod Ranges
+mod Visits
+pub mod Counting
+pub mod EdgeLaws
+pub mod Extending
+pub mod Nearness
+pub mod RisingOffsets

@@ -1,0 +1,6 @@
+pub mod Ascending
+pub mod Handlers
+pub mod Plain
+pub mod Reached
+pub mod Waiting
+pub mod Working

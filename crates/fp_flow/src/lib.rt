@@ -1,0 +1,16 @@
+//! The flow of control through a code, and the least solution of dataflow problems over it.
+#![tactic(auto)]
+
+mod control;
+mod count;
+mod dataflow;
+mod effects;
+mod sorts;
+mod worklist;
+
+pub use control::{Flow, MOST_EDGES, edges, law_edges};
+pub use count::instr_count;
+pub use dataflow::Dataflow;
+pub use effects::{effect, return_takes};
+pub use sorts::{argument_words, is_wide, push_kinds, push_words, result_words, sort_of, words_of};
+pub use worklist::solve;

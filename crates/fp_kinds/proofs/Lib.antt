@@ -1,0 +1,5 @@
+mod Arguments
+mod Labels
+mod ReachedFrames
+mod SameSorts
+mod TransferLists

@@ -1,0 +1,10 @@
+use Rattle.std.proofs.Common.{◌≡◌, ◌++◌, drop, take, length}
+use Rattle.fp_facts.specs.Frames as frames
+use Rattle.fp_facts.specs.Sorts as sorts
+use Rattle.fp_kinds.proofs.join.join_words.Given as goal
+
+abbrev pub invariant-loop-at : goal.invariant-loop-at
+invariant-loop-at l =
+    (length l.into ≡ length l.more)
+    × (frames.join_words sorts.join_sorts l.initial.into l.more
+    ≡ take l.at l.into ++ frames.join_words sorts.join_sorts (drop l.at l.into) (drop l.at l.more))

@@ -1,0 +1,50 @@
+//! Words of frames.
+ghost use Rattle.std.specs.Prelude.{◌≡◌, ◌-◌, slice_index_or, IfOk};
+ghost use Rattle.fp_facts.specs.Sorts as sorts;
+ghost use Rattle.fp_facts.specs.Transfer as transfer;
+
+use fp_model::Sort;
+
+/// The word at a place, and none behind the last.
+pub(crate) fn word_at(words: &[Sort], at: usize) -> Sort
+    ensures { result ≡ slice_index_or words.now at Sort.Unset }
+{
+    words.get(at).copied().unwrap_or(Sort::Unset)
+}
+
+/// Whether two sorts are one.
+pub(crate) fn same_sort(a: Sort, b: Sort) -> bool
+    ensures { result ≡ sorts.same_sort a b }
+{
+    a == b
+}
+
+/// Whether words are the same, one by one, and as many.
+#[tactic(auto, using(crate::proofs::SameSorts::comparing))]
+pub(crate) fn same_sorts(a: &[Sort], b: &[Sort]) -> bool
+    ensures { result ≡ sorts.same_sorts a.now b.now }
+{
+    if a.len() != b.len() {
+        return false;
+    }
+    for (i, word) in a.iter().enumerate() {
+        if !same_sort(*word, b[i]) {
+            return false;
+        }
+    }
+    true
+}
+
+/// Whether some word holds nothing that may be used.
+pub(crate) fn has_unset(words: &[Sort]) -> bool
+    ensures { result ≡ sorts.has_unset words.now }
+{
+    words.iter().any(|word| same_sort(*word, Sort::Unset))
+}
+
+/// Whether a stack ends with these words.
+pub(crate) fn ends_with(stack: &[Sort], words: &[Sort]) -> bool
+    ensures { result ≡ transfer.ends_with stack.now words.now }
+{
+    words.len() <= stack.len() && same_sorts(&stack[stack.len() - words.len()..], words)
+}

@@ -1,0 +1,12 @@
+mod CoveredWords
+mod GroupBits
+mod GroupMarks
+mod LawfulGroups
+mod TransferLists
+mod WrittenWords
+pub mod Chosen
+pub mod Gathering
+pub mod Growing
+pub mod Numbered
+pub mod Outcome
+pub mod Steps

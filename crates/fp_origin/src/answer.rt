@@ -1,0 +1,34 @@
+use fp_facts::OriginSet;
+use sqlite_items::Items;
+use std::alloc::AllocError;
+use thiserror::Error;
+
+/// The origins of the words of a code's frames.
+#[derive(Debug, Drop)]
+pub struct Origins {
+    /// Those of each word of the frame before each instruction, the local variables and then the stack; none where no way
+    /// leads there.
+    pub frames: Items<Option<Items<OriginSet>>>,
+}
+
+/// Why a code has no origins.
+#[derive(Debug, Drop, Error)]
+pub enum OriginFault {
+    /// There are more pairs of a word and an origin than are told.
+    #[error("too many origin pairs")]
+    Limit,
+    /// There was no memory.
+    #[error("out of memory")]
+    Memory,
+}
+
+impl From<AllocError> for OriginFault {
+    ghost use Rattle.std.specs.Prelude.{◌≡◌};
+    ghost use Rattle.fp_origin.specs.declared.answer.OriginFault.TheVariants.{Memory};
+
+    ghost from_gives = { λ _ fault. fault ≡ Memory };
+
+    fn from(_error: AllocError) -> OriginFault {
+        OriginFault::Memory
+    }
+}

@@ -1,0 +1,10 @@
+//! Where the references in the frames of a code may come from.
+#![tactic(auto)]
+
+mod answer;
+mod group;
+mod numbering;
+mod search;
+
+pub use answer::{OriginFault, Origins};
+pub use search::{MOST_ORIGIN_PAIRS, origins};
