@@ -4,3 +4,4 @@ mod GatheringLemmas
 mod ReadLemmas
 mod OutcomeLemmas
 mod SizeLemmas
+mod JudgingLemmas

@@ -15,7 +15,7 @@ use Rattle.fp_load.specs.declared.fault.LoadFault.TheVariants as fault
 use Rattle.fp_load.specs.declared.gathering.Gathered.{Gathered}
 use Rattle.fp_load.specs.Causes.{Blames, Keeps}
 use Rattle.fp_load.specs.Gathering.{HasRead, IsGathered}
-use Rattle.fp_load.specs.Load.{faults_of, files_below, loaded_of, loaded_of_bytes, loaded_of_faults, most_files, passed_from, raws_of}
+use Rattle.fp_load.specs.Load.{faults_of, files_below, loaded_of, loaded_of_bytes, loaded_of_faults, most_files, passed_from}
 use Rattle.fp_load.specs.Load.LoadRefusal.{Passed}
 use Rattle.fp_load.specs.Steps.{file_at, BlamesReading, TellsPassed}
 use Rattle.fp_load.proofs.PassedLemmas.{none_passed, passed_at_end}
@@ -121,7 +121,7 @@ blamed_below dir listed later paths before mid now (fault.Set why) same among be
 blamed_below dir listed later paths before mid now fault.Memory same among below grows blamed = tt
 
 -- what comes of the files that are told, where they are those that were read
-told_outcome : (files read : List File) (dir : List ℕ) → files_below files dir ≡ read → passed_from 0 read ≡ None → length (class_paths files dir) ≤ 20000 → loaded_of files dir ≡ loaded_of_faults (raws_of read) (faults_of read)
+told_outcome : (files read : List File) (dir : List ℕ) → files_below files dir ≡ read → passed_from 0 read ≡ None → length (class_paths files dir) ≤ 20000 → loaded_of files dir ≡ loaded_of_faults read (faults_of read)
 told_outcome files read dir same none few =
     cond-false (nat_lt most_files (length (class_paths files dir))) (Err (Passed Files most_files)) (loaded_of_bytes (files_below files dir) (passed_from 0 (files_below files dir))) (le-ltb most_files (length (class_paths files dir)) few)
     ∙ ap (λ l. loaded_of_bytes l (passed_from 0 l)) same
@@ -130,7 +130,7 @@ told_outcome files read dir same none few =
 -- the files that were read are few, and where files are told, the outcome is theirs
 pub all_read : (tells later : Bool) (files now : List File) (dir : List ℕ) (paths : List (String Global)) (sum : ℕ) (g : Gathered) → later ≡ tells → now ≡ files → length paths ≤ 20000
     → (IsTrue tells → texts paths ≡ in_text_order (class_paths files dir)) → (IsTrue tells → length (class_paths files dir) ≤ 20000) → HasRead later now (texts paths) sum g
-    → (read : List File) × (length read ≤ 20000) × IsGathered read g × (IsTrue tells → loaded_of files dir ≡ loaded_of_faults (raws_of read) (faults_of read))
+    → (read : List File) × (length read ≤ 20000) × IsGathered read g × (IsTrue tells → loaded_of files dir ≡ loaded_of_faults read (faults_of read))
 all_read tells later files now dir paths sum g telling same few order told_few has =
     let none : passed_from 0 has.read ≡ None = ap (passed_from 0) (sym (append-nil has.read)) ∙ has.passed [] ∙ passed_at_end sum in (
       has.read,

@@ -1,20 +1,18 @@
 -- What a fault of loading says of the told files.
 use Rattle.std.specs.Prelude.{◌≡◌, ℕ, List, map, Result, Err, string_bytes, String}
 use Rattle.std.specs.declared.alloc.Global.{Global}
-use Rattle.fp_model.specs.declared.fault.FileFault.{FileFault}
 use Rattle.fp_model.specs.declared.class_set.fault.SetFault.TheVariants as set_fault
 use Rattle.fp_model.specs.ClassSet.{SetView}
 use Rattle.fp_model.specs.ClassSet.SetRefusal.{Duplicate, SuperCycle}
 use Rattle.fp_load.specs.Load.{LoadRefusal}
 use Rattle.fp_load.specs.Load.LoadRefusal.{Passed, Faulty, Unsound}
 use Rattle.fp_load.specs.declared.fault.FileRefusal.{FileRefusal}
-use Rattle.fp_load.specs.declared.fault.FileRefusal.TheVariants as refusal
 use Rattle.fp_load.specs.declared.fault.LoadFault.{LoadFault}
 use Rattle.fp_load.specs.declared.fault.LoadFault.TheVariants as fault
 
 -- why a file is refused, by its path
-abbrev pub refusal_told : String Global × FileRefusal → List ℕ × FileFault
-refusal_told (path, refusal.File why) = (string_bytes path, why)
+abbrev pub refusal_told : String Global × FileRefusal → List ℕ × FileRefusal
+refusal_told (path, why) = (string_bytes path, why)
 
 -- a read fault and want of memory say nothing of the told files
 abbrev pub Tells : Result SetView LoadRefusal → LoadFault → Type 0

@@ -3,3 +3,5 @@ pub mod Faults
 pub mod Load
 pub mod Steps
 pub mod Gathering
+pub mod Judging
+pub mod Kinds

@@ -1,9 +1,12 @@
-ghost use Rattle.std.specs.Prelude.{◌≡◌, ◌≤◌, List, [], length, Ok, IfOk, IfErr, IsTrue, string_bytes};
+ghost use Rattle.std.specs.Prelude.{◌≡◌, ◌≤◌, List, [], length, All, Ok, IfOk, IfErr, IsTrue, string_bytes};
 ghost use Rattle.fp_base.specs.Files.{File};
+ghost use Rattle.fp_facts.specs.Kinded.{IsKindedMethod};
 ghost use Rattle.fp_load.specs.Causes.{Blames, Keeps};
 ghost use Rattle.fp_load.specs.Faults.{Tells};
 ghost use Rattle.fp_load.specs.Gathering.{IsGathered};
-ghost use Rattle.fp_load.specs.Load.{faults_of, loaded_of, loaded_of_faults, raws_of};
+ghost use Rattle.fp_load.specs.Load.{faults_of, loaded_of, loaded_of_faults};
+ghost use Rattle.fp_model.specs.ClassSet.{methods_of};
+ghost use Rattle.fp_model.specs.SoundCode.{IsSoundMethod};
 
 use crate::fault::LoadFault;
 use crate::gathering::{Gathered, gather, nothing};
@@ -18,12 +21,16 @@ use std::alloc::Global;
 /// classes. Nothing is taken for granted of other classes.
 ///
 /// The first refusal in this order is told: more than 20,000 files; file by file, more than 4,194,304 bytes, and then more than
-/// 268,435,456 bytes so far; the files that are no class files; more than 16,777,216 names; two classes of one name; a cycle of
-/// superclasses; more than 262,144 methods. A module gives no class (JVMS SE 21 section 4.1).
+/// 268,435,456 bytes so far; the files that are no class files; more than 16,777,216 names; a code of more than 4,194,304 frame
+/// words; the files with a method whose words have no kinds, each with the first such method (JVMS SE 21 section 4.10); two
+/// classes of one name; a cycle of superclasses; more than 262,144 methods. A module gives no class (section 4.1).
 pub fn load<D: ClassDir>(alloc: Global, dir: &mut D, job: &Job) -> Result<Loaded, LoadFault>
     ensures keeps { Keeps (D.tells dir.old) (D.files dir.old) (D.failed dir.old) (D.tells dir.new) (D.files dir.new) (D.failed dir.new) }
     // The set is that of the told files.
     ensures set { IfOk result (λ loaded. IsTrue (D.tells dir.old) → loaded_of (D.files dir.old) (string_bytes job.now.dir) ≡ Ok loaded.set) }
+    // Its codes are sound and kinded, whatever the directory tells.
+    ensures sound { IfOk result (λ loaded. All IsSoundMethod (methods_of loaded.set.classes)) }
+    ensures kinded { IfOk result (λ loaded. All IsKindedMethod (methods_of loaded.set.classes)) }
     ensures assume { IfOk result (λ loaded. (loaded.assume.pure ≡ []) × (loaded.assume.sef ≡ []) × (loaded.assume.fixed ≡ [])) }
     // A fault is what they call for.
     ensures fault { IfErr result (λ fault. IsTrue (D.tells dir.old) → Tells (loaded_of (D.files dir.old) (string_bytes job.now.dir)) fault) }
@@ -46,7 +53,7 @@ pub fn load<D: ClassDir>(alloc: Global, dir: &mut D, job: &Job) -> Result<Loaded
 fn gather_below<D: ClassDir>(alloc: Global, dir: &mut D, path: &str) -> Result<Gathered, LoadFault>
     ensures keeps { Keeps (D.tells dir.old) (D.files dir.old) (D.failed dir.old) (D.tells dir.new) (D.files dir.new) (D.failed dir.new) }
     ensures gathered { IfOk result (λ gathered. (files : List File) × (length files ≤ 20000) × IsGathered files gathered
-        × (IsTrue (D.tells dir.old) → loaded_of (D.files dir.old) path.now ≡ loaded_of_faults (raws_of files) (faults_of files))) }
+        × (IsTrue (D.tells dir.old) → loaded_of (D.files dir.old) path.now ≡ loaded_of_faults files (faults_of files))) }
     ensures fault { IfErr result (λ fault. IsTrue (D.tells dir.old) → Tells (loaded_of (D.files dir.old) path.now) fault) }
     ensures blames { IfErr result (λ fault. Blames path.now (D.listed dir.new) (D.failed dir.old) (D.failed dir.new) fault) }
 {

@@ -6,6 +6,9 @@ use sqlite_items::Items;
 pub enum FileRefusal {
     /// It is no class file.
     File(FileFault),
+    /// The words of a method's frames have no kinds: the first such method, by its place in the file, and the first
+    /// instruction there that can't take its frame, by its offset in the code, in bytes.
+    Kinds { method: u32, pc: u16 },
 }
 
 /// Why nothing was loaded.

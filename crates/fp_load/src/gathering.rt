@@ -1,8 +1,8 @@
-ghost use Rattle.std.specs.Prelude.{◌≡◌, ℕ, ◌≤◌, ◌<◌, ◌++◌, ◌∷◌, [], List, length, map, All, IsSome, IsTrue, OnOk, IfErr, IsErrOf, Ok, Err};
+ghost use Rattle.std.specs.Prelude.{◌≡◌, ℕ, ◌≤◌, ◌<◌, false, ◌++◌, ◌∷◌, [], List, length, map, All, IsSome, IsTrue, OnOk, IfErr, IsErrOf, Ok, Err};
 ghost use Rattle.fp_base.specs.Files.{File, bytes_at, texts};
 ghost use Rattle.fp_class.specs.ClassFile.{class_of, IsWellFormed};
 ghost use Rattle.fp_load.specs.Causes.{Keeps};
-ghost use Rattle.fp_load.specs.Gathering.{AreNumbered, HasRead, IsGathered, IsNamed};
+ghost use Rattle.fp_load.specs.Gathering.{AreNumbered, HasRead, IsGathered, IsNamed, path_of};
 ghost use Rattle.fp_load.specs.Load.{most_names, names_of, passed_from};
 ghost use Rattle.fp_load.specs.Steps.{file_at, BlamesReading, TellsPassed};
 ghost use Rattle.fp_model.specs.declared.raw.Raw.{Raw};
@@ -22,6 +22,8 @@ pub struct Gathered {
     pub names: Names,
     /// The classes, in the order of their files.
     pub classes: Vec<Class>,
+    /// The paths of their files.
+    pub paths: Vec<String>,
     /// The files that are no class files.
     pub faults: Items<(String, FileRefusal)>,
     /// Whether there are more names than a table holds; then no further class is gathered.
@@ -35,6 +37,7 @@ pub fn nothing(alloc: Global) -> Gathered
     Gathered {
         names: Names::new(alloc),
         classes: Vec::new(alloc),
+        paths: Vec::new(alloc),
         faults: Items::new(alloc),
         full: false,
     }
@@ -63,10 +66,26 @@ fn add_class(
     }
 }
 
+/// The flag of a module.
+const ACC_MODULE: u16 = 0x8000;
+
+/// Adds the path of a class file, unless it is a module's.
+fn add_path(alloc: Global, paths: &mut Vec<String>, path: &str, raw: &Raw) -> Result<(), AllocError>
+    ensures { OnOk result (texts paths.new.items ≡ texts paths.old.items ++ path_of path.now raw.now) }
+{
+    if raw.flags & ACC_MODULE != 0 {
+        return Ok(());
+    }
+    paths.push(String::from_str(alloc, path)?)?;
+    Ok(())
+}
+
 /// Adds a class file, while the table of names has room.
-fn add_raw(alloc: Global, gathered: &mut Gathered, raw: &Raw) -> Result<(), AllocError>
+fn add_raw(alloc: Global, gathered: &mut Gathered, path: &str, raw: &Raw) -> Result<(), AllocError>
     requires { IsWellFormed raw.now }
     ensures faults { OnOk result (gathered.new.faults ≡ gathered.old.faults) }
+    ensures room { OnOk result (gathered.new.full ≡ false → gathered.old.full ≡ false) }
+    ensures paths { OnOk result (gathered.new.full ≡ false → texts gathered.new.paths.items ≡ texts gathered.old.paths.items ++ path_of path.now raw.now) }
     ensures numbered { OnOk result ((raws : List Raw) → AreNumbered raws gathered.old.names gathered.old.classes.items gathered.old.full
         → AreNumbered (raws ++ raw.now ∷ []) gathered.new.names gathered.new.classes.items gathered.new.full) }
 {
@@ -74,7 +93,10 @@ fn add_raw(alloc: Global, gathered: &mut Gathered, raw: &Raw) -> Result<(), Allo
         return Ok(());
     }
     match add_class(alloc, raw, &mut gathered.names, &mut gathered.classes) {
-        Ok(()) => Ok(()),
+        Ok(()) => {
+            add_path(alloc, &mut gathered.paths, path, raw)?;
+            Ok(())
+        }
         Err(NameFault::Full) => {
             gathered.full = true;
             Ok(())
@@ -107,7 +129,7 @@ fn add_file(
     ensures { OnOk result ((files : List File) → IsGathered files gathered.old → IsGathered (files ++ record { path = path.now; bytes = bytes.now } ∷ []) gathered.new) }
 {
     match read_class(alloc, bytes) {
-        Ok(raw) => add_raw(alloc, gathered, &raw),
+        Ok(raw) => add_raw(alloc, gathered, path, &raw),
         Err(FileFault::Memory) => Err(AllocError),
         Err(fault) => add_fault(alloc, gathered, path, fault),
     }

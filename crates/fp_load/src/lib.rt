@@ -4,6 +4,7 @@
 mod directory;
 mod fault;
 mod gathering;
+mod judging;
 mod outcome;
 mod paths;
 mod reading;

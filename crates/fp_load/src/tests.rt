@@ -1,3 +1,5 @@
+mod kinds;
+
 use crate::{FileRefusal, LoadFault, load};
 use fp_base::{MemDir, has_distinct_paths};
 use fp_facts::Loaded;
@@ -51,6 +53,9 @@ fn refused_text(
     for (path, why) in refused.as_slice() {
         match why {
             FileRefusal::File(fault) => lines.push(format!(in alloc; "{path} {fault:?}")?)?,
+            FileRefusal::Kinds { method, pc } => {
+                lines.push(format!(in alloc; "{path} method {method} pc {pc}")?)?;
+            }
         }
     }
     lines.join(alloc, ", ")

@@ -2,3 +2,4 @@ mod DecideLemmas
 mod TopLemmas
 mod SystemLemmas
 mod WordLemmas
+mod MethodLemmas

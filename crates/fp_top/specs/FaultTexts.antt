@@ -1,8 +1,10 @@
--- The text of why a file is no class file, its numbers in decimal.
+-- The text of why a file is refused, its numbers in decimal.
 use Rattle.std.specs.Prelude.{ℕ, List, ◌++◌, codes}
 use Rattle.std.specs.Fmt.{decimal}
 use Rattle.fp_model.specs.declared.fault.FileFault.{FileFault}
 use Rattle.fp_model.specs.declared.fault.FileFault.TheVariants as fault
+use Rattle.fp_load.specs.declared.fault.FileRefusal.{FileRefusal}
+use Rattle.fp_load.specs.declared.fault.FileRefusal.TheVariants as refusal
 
 -- want of memory is no fault of a file, and this text of it is told nowhere
 abbrev pub fault_text : FileFault → List ℕ
@@ -19,3 +21,8 @@ fault_text (fault.CodeCount method) = codes "code count method " ++ decimal meth
 fault_text (fault.Repeat at) = codes "repeat at " ++ decimal at
 fault_text (fault.Trailing at) = codes "trailing at " ++ decimal at
 fault_text fault.Memory = codes "memory"
+
+-- a file that is no class file, or one with a method whose words have no kinds
+abbrev pub file_refusal_text : FileRefusal → List ℕ
+file_refusal_text (refusal.File why) = fault_text why
+file_refusal_text (refusal.Kinds method pc) = codes "kinds method " ++ (decimal method ++ (codes " pc " ++ decimal pc))

@@ -3,12 +3,12 @@ use Rattle.std.specs.Prelude.{ℕ, List, [], ◌++◌, codes, Option, Some, None
 use Rattle.std.specs.List.{flat_map}
 use Rattle.std.specs.Fmt.{decimal}
 use Rattle.fp_base.specs.Files.{File}
-use Rattle.fp_model.specs.declared.fault.FileFault.{FileFault}
 use Rattle.fp_model.specs.declared.limit.LimitName.{LimitName}
 use Rattle.fp_model.specs.declared.limit.LimitName.TheVariants.{Places}
 use Rattle.fp_model.specs.Limits.{limit_name_text}
 use Rattle.fp_model.specs.ClassSet.{SetView}
 use Rattle.fp_model.specs.ClassSet.SetRefusal.{Duplicate, SuperCycle}
+use Rattle.fp_load.specs.declared.fault.FileRefusal.{FileRefusal}
 use Rattle.fp_load.specs.Load.{LoadRefusal, loaded_of}
 use Rattle.fp_load.specs.Load.LoadRefusal.{Passed, Faulty, Unsound}
 use Rattle.fp_eqs.specs.Solution.{solution}
@@ -20,7 +20,7 @@ use Rattle.fp_report.specs.Report.{report}
 use Rattle.fp_words.specs.Words.{RunAsked}
 use Rattle.fp_top.specs.declared.status.Status.{Status}
 use Rattle.fp_top.specs.declared.status.Status.TheVariants as status
-use Rattle.fp_top.specs.FaultTexts.{fault_text}
+use Rattle.fp_top.specs.FaultTexts.{file_refusal_text}
 use Rattle.fp_top.specs.Words.{asked_of}
 
 -- a report, line by line, or a refusal with its status and what it writes to err
@@ -33,12 +33,12 @@ pub data Outcome : Type 0 where
 abbrev pub usage_text : List ℕ
 usage_text = codes "usage: fpcf --analyses LIST --show LIST --workers N [--assume FILE] [--all] [--cycles] DIR [ROOT]...\nusage: fpcf generate --seed N --classes N --workers N\n"
 
--- a file at a path that is no class file, and its first fault
-abbrev pub fault_line : List ℕ → FileFault → List ℕ
-fault_line path fault = codes "refused: " ++ (path ++ (codes ": " ++ (fault_text fault ++ codes "\n")))
+-- a file at a path that is refused, and why
+abbrev pub fault_line : List ℕ → FileRefusal → List ℕ
+fault_line path why = codes "refused: " ++ (path ++ (codes ": " ++ (file_refusal_text why ++ codes "\n")))
 
 -- a line for each of these
-abbrev pub fault_lines : List (List ℕ × FileFault) → List ℕ
+abbrev pub fault_lines : List (List ℕ × FileRefusal) → List ℕ
 fault_lines faults = flat_map (λ f. fault_line f.0 f.1) faults
 
 -- two classes of one escaped name

@@ -1,6 +1,7 @@
 ghost use Rattle.std.specs.Prelude.{◌≡◌, IfOk, string_bytes};
 ghost use Rattle.fp_top.specs.FaultTexts as spec;
 
+use fp_load::FileRefusal;
 use fp_model::FileFault;
 use std::alloc::{AllocError, Global};
 
@@ -22,5 +23,15 @@ pub fn fault_text(alloc: Global, fault: FileFault) -> Result<String, AllocError>
         FileFault::Repeat { at } => format!(in alloc; "repeat at {at}"),
         FileFault::Trailing { at } => format!(in alloc; "trailing at {at}"),
         FileFault::Memory => String::from_str(alloc, "memory"),
+    }
+}
+
+/// Why a file is refused, its numbers in decimal.
+pub fn file_refusal_text(alloc: Global, refusal: FileRefusal) -> Result<String, AllocError>
+    ensures { IfOk result (λ text. string_bytes text ≡ spec.file_refusal_text refusal) }
+{
+    match refusal {
+        FileRefusal::File(fault) => fault_text(alloc, fault),
+        FileRefusal::Kinds { method, pc } => format!(in alloc; "kinds method {method} pc {pc}"),
     }
 }

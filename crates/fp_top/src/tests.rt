@@ -2,6 +2,7 @@ ghost use Rattle.std.specs.Prelude.{◌≡◌, [], IfOk};
 ghost use Rattle.fp_model.specs.ClassSet.{IsClassOver};
 
 mod files;
+mod origins;
 
 use crate::fault_text::fault_text;
 use crate::report::put_report;
@@ -140,7 +141,10 @@ fn reports_a_class_and_refuses_what_is_none(rt: HostRuntime) -> Result<(), Fail>
 #[test]
 fn reads_the_code_of_methods(rt: HostRuntime) -> Result<(), Fail> {
     let alloc = rt.alloc();
-    let cases: [(&[u8], &str); 7] = [
+    let cases: [(&[u8], &str); 10] = [
+        (&[0x57, 0xB1], "refused: d/A.class: kinds method 0 pc 0\n"),
+        (&[0x03, 0xAC], "refused: d/A.class: kinds method 0 pc 1\n"),
+        (&[0x00], "refused: d/A.class: kinds method 0 pc 0\n"),
         (
             &[
                 3, 0xAA, 0, 0, 0, 0, 0, 19, 0, 0, 0, 0, 0, 0, 0, 0, 0, 0, 0, 19, 0xB1,
@@ -259,8 +263,27 @@ fn tells_each_fault_of_a_file_in_its_words(rt: HostRuntime) -> Result<(), Fail> 
 #[test]
 fn reads_the_class_files_of_a_directory(rt: HostRuntime) -> Result<(), Fail> {
     let alloc = rt.alloc();
-    let cases: [(&[(&str, char)], Status, &str, &str); 7] = [
+    let cases: [(&[(&str, char)], Status, &str, &str); 11] = [
         (&[], Status::Done, "cells 0\n", ""),
+        (
+            &[("d/B.class", 'q'), ("d/A.class", 'p')],
+            Status::Refused,
+            "",
+            "refused: d/A.class: kinds method 1 pc 0\nrefused: d/B.class: kinds method 0 pc 0\n",
+        ),
+        (
+            &[("d/A.class", 'k'), ("d/B.class", 'w')],
+            Status::Limit,
+            "",
+            "limit: frame-words 4194304\n",
+        ),
+        (&[("d/A.class", 'm')], Status::Done, "cells 0\n", ""),
+        (
+            &[("d/A.class", 'k'), ("d/B.class", 'c')],
+            Status::Refused,
+            "",
+            "refused: d/B.class: truncated at 4\n",
+        ),
         (
             &[("d/H.class", 'H'), ("d/A.class", 'A'), ("e/A.class", 'A')],
             Status::Done,

@@ -4,11 +4,11 @@ ghost use Rattle.fp_load.specs.Faults.{refusal_told};
 ghost use Rattle.fp_top.specs.Outcome as outcome;
 ghost use Rattle.fp_top.specs.Refusal as spec;
 
-use crate::fault_text::fault_text;
+use crate::fault_text::file_refusal_text;
 use crate::refusal::Refusal;
 use fp_base::Sink;
 use fp_load::FileRefusal;
-use fp_model::{FileFault, LimitName};
+use fp_model::LimitName;
 use std::alloc::{AllocError, Global};
 
 /// What words that are not of the grammar are answered by.
@@ -54,19 +54,18 @@ fn fault_lines(alloc: Global, refused: &[(String, FileRefusal)]) -> Result<Strin
 {
     let mut lines = String::new(alloc);
     for (path, refusal) in refused {
-        let FileRefusal::File(fault) = refusal;
-        let line = fault_line(alloc, path.as_str(), *fault)?;
+        let line = fault_line(alloc, path.as_str(), *refusal)?;
         lines.push_str(line.as_str())?;
     }
     Ok(lines)
 }
 
-/// What a file that is no class file writes to err.
-fn fault_line(alloc: Global, path: &str, fault: FileFault) -> Result<String, AllocError>
-    ensures { IfOk result (λ text. string_bytes text ≡ outcome.fault_line path.now fault) }
+/// What a file that is refused writes to err.
+fn fault_line(alloc: Global, path: &str, refusal: FileRefusal) -> Result<String, AllocError>
+    ensures { IfOk result (λ text. string_bytes text ≡ outcome.fault_line path.now refusal) }
 {
-    match fault_text(alloc, fault) {
-        Ok(fault) => format!(in alloc; "refused: {path}: {fault}\n"),
+    match file_refusal_text(alloc, refusal) {
+        Ok(why) => format!(in alloc; "refused: {path}: {why}\n"),
         Err(error) => Err(error),
     }
 }

@@ -108,7 +108,9 @@ pub fn files_with(
 }
 
 /// The bytes that a letter stands for: the class A or H, the classes X and Y of which each extends the other, Z, which extends
-/// a class of no file, or the class A cut short, with a byte behind it, or too long.
+/// a class of no file; the class A cut short, with a byte behind it, or too long; or the class A with methods that are not
+/// kinded: one that returns an int from `void`, one of a module, the second and third of three, both of two, and one whose
+/// frames are too large.
 fn bytes_of(alloc: Global, letter: char) -> Result<Vec<u8>, AllocError> {
     match letter {
         'H' => Vec::from_slice(alloc, &H),
@@ -118,6 +120,11 @@ fn bytes_of(alloc: Global, letter: char) -> Result<Vec<u8>, AllocError> {
         'c' => Vec::from_slice(alloc, &A_FINAL[..4]),
         't' => with_byte(alloc),
         'l' => vec![in alloc; 0u8; 4_194_305],
+        'k' => with_code(alloc, &IRETURN),
+        'm' => changed(alloc, &with_code(alloc, &POP)?, 56, 0x80),
+        'p' => with_methods(alloc, &[&[0xB1], &POP, &POP]),
+        'q' => with_methods(alloc, &[&POP, &IRETURN]),
+        'w' => with_large_frames(alloc),
         _ => Vec::from_slice(alloc, &A_FINAL),
     }
 }
@@ -138,6 +145,40 @@ pub fn with_code(alloc: Global, code: &[u8]) -> Result<Vec<u8>, AllocError> {
     bytes.extend_from_slice(&count.to_be_bytes())?;
     bytes.extend_from_slice(code)?;
     bytes.extend_from_slice(&[0; 6])?;
+    Ok(bytes)
+}
+
+/// A code that pops from an empty stack.
+const POP: [u8; 2] = [0x57, 0xB1];
+
+/// A code that returns an int.
+const IRETURN: [u8; 2] = [0x03, 0xAC];
+
+/// A class A with as many static methods, of up to three names that its constant pool has.
+fn with_methods(alloc: Global, codes: &[&[u8]]) -> Result<Vec<u8>, AllocError> {
+    let mut bytes = Vec::from_slice(alloc, &WITH_METHOD[..66])?;
+    bytes.extend_from_slice(&[0, u8::try_from(codes.len()).unwrap_or(0)])?;
+    for (code, name) in codes.iter().zip(&[5u8, 1, 7]) {
+        let count = u8::try_from(code.len()).unwrap_or(0);
+        bytes.extend_from_slice(&[0, 9, 0, *name, 0, 6, 0, 1, 0, 7])?;
+        bytes.extend_from_slice(&[0, 0, 0, count.wrapping_add(12), 0, 2, 0, 0, 0, 0, 0, count])?;
+        bytes.extend_from_slice(code)?;
+        bytes.extend_from_slice(&[0; 4])?;
+    }
+    bytes.extend_from_slice(&[0; 2])?;
+    Ok(bytes)
+}
+
+/// A class A whose method has 33 instructions, and 131,070 words in each frame.
+fn with_large_frames(alloc: Global) -> Result<Vec<u8>, AllocError> {
+    let mut code = vec![in alloc; 0u8; 33]?;
+    code[32] = 0xB1;
+    let mut bytes = with_code(alloc, &code)?;
+    for at in 82..86 {
+        if at < bytes.len() {
+            bytes[at] = 0xFF;
+        }
+    }
     Ok(bytes)
 }
 
