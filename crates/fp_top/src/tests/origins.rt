@@ -4,13 +4,13 @@ ghost use Rattle.fp_model.specs.ClassSet.{methods_of};
 ghost use Rattle.fp_model.specs.SoundCode.{IsSoundMethod};
 ghost use Rattle.fp_facts.specs.Kinded.{IsKindedMethod};
 
-use super::files::file;
+use super::files::{H, P, S, file};
 use super::texts;
 use fp_base::{MemDir, has_distinct_paths};
 use fp_facts::OriginSet;
 use fp_flow::edges;
 use fp_load::load;
-use fp_model::{ClassSet, Method};
+use fp_model::{ClassSet, Method, MethodId};
 use fp_origin::origins;
 use fp_words::{Order, read_words};
 use std::alloc::{AllocError, Global};
@@ -85,24 +85,30 @@ fn words_text(alloc: Global, method: &Method, number: usize) -> Result<String, A
     texts.join(alloc, " ")
 }
 
-/// The same of the first method of a set.
+/// The same of the method of a number.
 #[tactic(auto, using(crate::proofs::MethodLemmas::first))]
-fn first_text(alloc: Global, set: &ClassSet, number: usize) -> Result<String, AllocError>
+fn method_text(
+    alloc: Global,
+    set: &ClassSet,
+    method: MethodId,
+    number: usize,
+) -> Result<String, AllocError>
     requires sound { All IsSoundMethod (methods_of set.now.classes) }
     requires kinded { All IsKindedMethod (methods_of set.now.classes) }
 {
     let (_classes, _fields, methods) = set.counts();
-    if methods == 0 {
+    if method >= methods {
         return String::from_str(alloc, "no method");
     }
-    words_text(alloc, set.method(0), number)
+    words_text(alloc, set.method(method), number)
 }
 
-/// The same of the method of a class file.
+/// The same of a method of a class file.
 fn outcome(
     rt: &impl Abort,
     alloc: Global,
     bytes: &[u8],
+    method: MethodId,
     number: usize,
 ) -> Result<String, AllocError> {
     let mut files = Vec::new(alloc);
@@ -114,7 +120,7 @@ fn outcome(
         return String::from_str(alloc, "words");
     };
     match load(alloc, &mut dir, &job) {
-        Ok(loaded) => first_text(alloc, &loaded.set, number),
+        Ok(loaded) => method_text(alloc, &loaded.set, method, number),
         Err(_) => String::from_str(alloc, "refused"),
     }
 }
@@ -190,7 +196,23 @@ fn references_come_from_their_origins(rt: HostRuntime) -> Result<(), Fail> {
     ];
     for row in rows {
         let bytes = class_file(alloc, &row)?;
-        assert_eq!(rt; outcome(&rt, alloc, &bytes, row.3)?.as_str(), row.4);
+        assert_eq!(rt; outcome(&rt, alloc, &bytes, 0, row.3)?.as_str(), row.4);
+    }
+    Ok(())
+}
+
+#[test]
+fn what_is_made_handed_in_and_read_has_its_origin(rt: HostRuntime) -> Result<(), Fail> {
+    let alloc = rt.alloc();
+    // What `mk` gives back, what `id` does, and what the main method prints a text with.
+    let rows: [(&[u8], MethodId, usize, &str); 3] = [
+        (P.as_slice(), 2, 3, "New(0)"),
+        (S.as_slice(), 0, 1, "Param(0) Param(0)"),
+        (H.as_slice(), 1, 2, "Param(0) Other Other"),
+    ];
+    for (bytes, method, number, wanted) in rows {
+        let found = outcome(&rt, alloc, bytes, method, number)?;
+        assert_eq!(rt; found.as_str(), wanted);
     }
     Ok(())
 }

@@ -1,0 +1,12 @@
+pub mod BitRows
+pub mod Bits
+pub mod Given
+pub mod Hierarchies
+pub mod Lineages
+pub mod Marks
+pub mod Members
+pub mod Reach
+pub mod Receivers
+pub mod Tables
+pub mod Targets
+pub mod Walks

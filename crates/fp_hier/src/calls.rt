@@ -1,0 +1,233 @@
+//! What calls reach, by their forms (JVMS SE 21 section 6.5).
+ghost use Rattle.std.specs.Prelude.{◌≡◌, ◌<◌, ℕ, [], length, not, option_and_then, IfOk, IfSome};
+ghost use Rattle.fp_model.specs.Descriptor.{text_of};
+ghost use Rattle.fp_model.specs.ClassSet.{class_named, methods_of};
+ghost use Rattle.fp_facts.specs.Hierarchy.{class_of_name, has_number, superclasses};
+ghost use Rattle.fp_facts.specs.Selection as selection;
+ghost use Rattle.fp_facts.specs.Selection.{Reached, candidates_of, dispatched, fixed, goes_by_receiver, selected_above, special_reached, virtual_candidates};
+ghost use Rattle.fp_hier.specs.Hierarchies.{IsHierOf};
+ghost use Rattle.fp_hier.specs.Reach.{IsReach};
+ghost use Rattle.fp_hier.specs.Targets.{AreTargets};
+
+use crate::flags::is_private;
+use crate::hier::Hier;
+use crate::lineage::{superclass, superclass_name};
+use crate::selection::fixed_target;
+use crate::targets::Targets;
+use crate::texts::{is_object, name_text};
+use fp_model::{Class, ClassId, ClassSet, Instr};
+use sqlite_items::Items;
+use std::alloc::{AllocError, Global};
+
+const CONSTRUCTOR: &[u8] = b"<init>";
+
+const NO_PARAMETERS: &[u8] = b"()V";
+
+/// What a call reaches whatever classes have objects, and what it reaches besides by the objects of each class.
+#[derive(Drop)]
+pub(crate) struct CallReach {
+    pub(crate) always: Targets,
+    pub(crate) by_class: Vec<(ClassId, Targets)>,
+}
+
+/// A reference to a method, by the numbers of the class's name, of the method's and of its descriptor.
+#[derive(Clone, Copy)]
+struct Reference {
+    class: u32,
+    name: u32,
+    descr: u32,
+}
+
+impl Reference {
+    fn new(class: u32, name: u32, descr: u32) -> Reference
+        ensures class { result.class ≡ class }
+        ensures name { result.name ≡ name }
+        ensures descr { result.descr ≡ descr }
+    {
+        Reference { class, name, descr }
+    }
+}
+
+/// What an instruction of a class's method reaches: nothing, where it is no call.
+pub(crate) fn reach(
+    alloc: Global,
+    hier: &Hier,
+    set: &ClassSet,
+    caller: &Class,
+    instr: &Instr,
+) -> Result<CallReach, AllocError>
+    requires { IsHierOf set.now hier.now }
+    ensures { IfOk result (IsReach (length (methods_of set.now.classes)) (candidates_of set.now caller.now instr.now)) }
+{
+    match instr {
+        Instr::InvokeStatic {
+            class,
+            name,
+            descr,
+            ..
+        } => {
+            let resolved = hier.resolve_method(set, *class, *name, *descr);
+            Ok(always(alloc, fixed_target(alloc, set, resolved, true)?))
+        }
+        Instr::InvokeSpecial {
+            class,
+            name,
+            descr,
+            ..
+        } => {
+            let reference = Reference::new(*class, *name, *descr);
+            Ok(always(alloc, special(alloc, hier, set, caller, reference)?))
+        }
+        Instr::InvokeVirtual {
+            class,
+            name,
+            descr,
+            ..
+        }
+        | Instr::InvokeInterface {
+            class,
+            name,
+            descr,
+            ..
+        } => by_receiver(alloc, hier, set, Reference::new(*class, *name, *descr)),
+        Instr::InvokeDynamic { .. } => Ok(always(alloc, Targets::none(alloc, true))),
+        _ => Ok(always(alloc, Targets::none(alloc, false))),
+    }
+}
+
+// What is reached whatever classes have objects, and nothing besides.
+fn always(alloc: Global, targets: Targets) -> CallReach
+    ensures { (methods : ℕ) (reached : Reached) → AreTargets methods reached targets → IsReach methods (fixed reached) result }
+{
+    CallReach {
+        always: targets,
+        by_class: Vec::new(alloc),
+    }
+}
+
+// What an `invokespecial` reaches.
+fn special(
+    alloc: Global,
+    hier: &Hier,
+    set: &ClassSet,
+    caller: &Class,
+    reference: Reference,
+) -> Result<Targets, AllocError>
+    requires { IsHierOf set.now hier.now }
+    ensures { IfOk result (AreTargets (length (methods_of set.now.classes)) (special_reached set.now caller.now reference.class reference.name reference.descr)) }
+{
+    if is_empty_constructor(set, reference) {
+        return Ok(Targets::none(alloc, false));
+    }
+    if is_super_call(set, caller, reference) {
+        return from_superclass(alloc, hier, set, caller, reference);
+    }
+    let resolved = hier.resolve_method(set, reference.class, reference.name, reference.descr);
+    fixed_target(alloc, set, resolved, false)
+}
+
+// Whether it is the constructor of `java/lang/Object`, which is outside the set.
+fn is_empty_constructor(set: &ClassSet, reference: Reference) -> bool
+    ensures { result ≡ selection.is_empty_constructor set.now reference.class reference.name reference.descr }
+{
+    let names = set.names();
+    set.find_class(reference.class).is_none()
+        && is_object(names, reference.class)
+        && name_text(names, reference.name) == CONSTRUCTOR
+        && name_text(names, reference.descr) == NO_PARAMETERS
+}
+
+// Whether a superclass's method is called.
+fn is_super_call(set: &ClassSet, caller: &Class, reference: Reference) -> bool
+    ensures { result ≡ selection.is_super_call set.now caller.now reference.class reference.name }
+{
+    name_text(set.names(), reference.name) != CONSTRUCTOR
+        && is_superclass_name(set, caller, reference.class)
+}
+
+// Whether a superclass has the name.
+fn is_superclass_name(set: &ClassSet, class: &Class, name: u32) -> bool
+    ensures { result ≡ has_number (superclasses set.now.classes class.now) name }
+{
+    let (classes, _fields, _methods) = set.counts();
+    let mut above = class.parent;
+    for _ in 0..classes {
+        let parent = match above {
+            Some(parent) => parent,
+            None => return false,
+        };
+        if parent == name {
+            return true;
+        }
+        above = superclass_name(set, parent);
+    }
+    false
+}
+
+// What an object of the caller's superclass selects.
+fn from_superclass(
+    alloc: Global,
+    hier: &Hier,
+    set: &ClassSet,
+    caller: &Class,
+    reference: Reference,
+) -> Result<Targets, AllocError>
+    requires { IsHierOf set.now hier.now }
+    ensures { IfOk result (AreTargets (length (methods_of set.now.classes)) (selected_above set.now caller.now reference.name reference.descr)) }
+{
+    match superclass(set, caller) {
+        Some(class) => hier.selected(alloc, set, class, reference.name, reference.descr),
+        None => Ok(Targets::none(alloc, true)),
+    }
+}
+
+// What an `invokevirtual` or `invokeinterface` reaches.
+fn by_receiver(
+    alloc: Global,
+    hier: &Hier,
+    set: &ClassSet,
+    reference: Reference,
+) -> Result<CallReach, AllocError>
+    requires { IsHierOf set.now hier.now }
+    ensures { IfOk result (IsReach (length (methods_of set.now.classes)) (virtual_candidates set.now reference.class reference.name reference.descr)) }
+{
+    let resolved = hier.resolve_method(set, reference.class, reference.name, reference.descr);
+    if is_private_method(set, resolved) {
+        return Ok(always(alloc, fixed_target(alloc, set, resolved, false)?));
+    }
+    by_each_class(alloc, hier, set, reference)
+}
+
+// Whether there is a method, and it is private.
+fn is_private_method(set: &ClassSet, method: Option<u32>) -> bool
+    requires { IfSome method (λ id. id < length (methods_of set.now.classes)) }
+    ensures { not result ≡ goes_by_receiver set.now.classes method }
+{
+    match method {
+        Some(id) => is_private(set.method(id)),
+        None => false,
+    }
+}
+
+// What the objects of each class select that the reference may mean.
+fn by_each_class(
+    alloc: Global,
+    hier: &Hier,
+    set: &ClassSet,
+    reference: Reference,
+) -> Result<CallReach, AllocError>
+    requires { IsHierOf set.now hier.now }
+    ensures { IfOk result (IsReach (length (methods_of set.now.classes)) (dispatched set.now reference.class reference.name reference.descr)) }
+{
+    let classes = hier.receivers(alloc, set, reference.class)?;
+    let mut by_class = Vec::with_capacity(alloc, classes.len())?;
+    for class in &classes {
+        let selected = hier.selected(alloc, set, *class, reference.name, reference.descr)?;
+        by_class.push((*class, selected))?;
+    }
+    let outside = set.find_class(reference.class).is_none();
+    Ok(CallReach {
+        always: Targets::none(alloc, outside),
+        by_class,
+    })
+}

@@ -1,0 +1,21 @@
+//! The hierarchy of a set of classes: which declaration a reference means, and which methods a call can reach.
+#![tactic(auto)]
+
+mod bit_rows;
+mod bits;
+mod calls;
+mod declared;
+mod flags;
+mod hier;
+mod lineage;
+mod receivers;
+mod resolution;
+mod selection;
+mod superinterfaces;
+mod targets;
+#[cfg(test)]
+mod tests;
+mod texts;
+
+pub use hier::Hier;
+pub use targets::{CallTargets, MethodName, Targets};
