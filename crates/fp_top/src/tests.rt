@@ -1,6 +1,7 @@
 ghost use Rattle.std.specs.Prelude.{◌≡◌, [], IfOk};
 ghost use Rattle.fp_model.specs.ClassSet.{IsClassOver};
 
+mod calls;
 mod files;
 mod origins;
 
