@@ -9,7 +9,7 @@ use sqlite_items::Items;
 use std::alloc::Global;
 
 /// Where the bytes of a code lie, and what stands behind them. Each place is an offset in the file.
-#[derive(Debug, Drop)]
+#[derive(Drop)]
 pub struct Cut {
     /// In words.
     pub max_stack: u16,

@@ -10,6 +10,3 @@ mod rows;
 
 pub use attribute::{law_skipped, read_attr, skip_attr};
 pub use owner::Owner;
-
-#[cfg(test)]
-mod tests;

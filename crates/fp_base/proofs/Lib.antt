@@ -1,3 +1,4 @@
+mod FileMapLemmas
 mod NameSetLemmas
 mod ResultLemmas
 pub mod CallLemmas

@@ -1,7 +1,8 @@
 -- Calls on a directory, and the cause of an answer that is not Ok.
 use Rattle.std.specs.Prelude.{◌≡◌, ℕ, List, ◌++◌, Contains, Result, IsErrOf, string_bytes}
+use Rattle.fp_base.specs.declared.outside.call.CallKind.{CallKind}
+use Rattle.fp_base.specs.declared.outside.call.CallKind.TheVariants as kind
 use Rattle.fp_base.specs.declared.outside.call.DirCall.{DirCall}
-use Rattle.fp_base.specs.declared.outside.call.DirCall.TheVariants as code
 use Rattle.fp_base.specs.declared.outside.dir.DirFault.{DirFault}
 use Rattle.fp_base.specs.declared.outside.dir.DirFault.TheVariants.{Failed}
 
@@ -10,10 +11,14 @@ pub data Call : Type 0 where
   Listing : (path : List ℕ) → Call
   Reading : (path : List ℕ) → Call
 
+-- the call of a kind at a path
+abbrev pub call_at : CallKind → List ℕ → Call
+call_at kind.Listing path = Listing path
+call_at kind.Reading path = Reading path
+
 -- the call that the code keeps
 abbrev pub call_of : DirCall → Call
-call_of (code.Listing path) = Listing (string_bytes path)
-call_of (code.Reading path) = Reading (string_bytes path)
+call_of kept = call_at kept.kind (string_bytes kept.path)
 
 -- calls were added at the end
 abbrev pub Grows : List Call → List Call → Type 0

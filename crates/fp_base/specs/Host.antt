@@ -4,10 +4,11 @@ use Rattle.fp_base.specs.Calls.{Call}
 use Rattle.fp_base.specs.declared.host.walk.Walk.{Walk}
 use Rattle.fp_base.specs.declared.host.walk.TheConstants.{MAX_ENTRIES}
 
--- what the last listing answered, and which calls failed
+-- what the last listing answered, which calls failed, and how often a file was asked for
 pub record HostDirState : Type 0 where
   pub listed : List (List ℕ)
   pub failed : List Call
+  pub readings : ℕ
 
 -- how many puts failed
 pub record HostSinkState : Type 0 where

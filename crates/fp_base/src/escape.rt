@@ -95,34 +95,3 @@ pub fn law_escaped_name()
     ensures injective { (a b : List ℕ) → AreBytes a → AreBytes b → escaped_name a ≡ escaped_name b → a ≡ b }
     ensures bytes { (name : List ℕ) → AreBytes name → All IsNameByte (escaped_name name) }
 {}
-
-#[cfg(test)]
-mod tests {
-    use super::*;
-    use std::test::Fail;
-
-    #[test]
-    fn escapes_what_separates_and_what_does_not_print(rt: HostRuntime) -> Result<(), Fail> {
-        let cases: [(u8, &[u8], &[u8]); 10] = [
-            (0x20, b"\\x20", b"\\x20"),
-            (b'!', b"!", b"!"),
-            (b'\\', b"\\x5c", b"\\x5c"),
-            (b',', b"\\x2c", b"\\x2c"),
-            (b'.', b".", b"\\x2e"),
-            (b'(', b"(", b"\\x28"),
-            (b':', b":", b"\\x3a"),
-            (b'~', b"~", b"~"),
-            (0x7F, b"\\x7f", b"\\x7f"),
-            (0xFF, b"\\xff", b"\\xff"),
-        ];
-        for (byte, text, name) in cases {
-            let mut escaped = Vec::new(rt.alloc());
-            escape_text(&[byte], &mut escaped)?;
-            assert_eq!(rt; escaped.as_slice(), text);
-            escaped.clear();
-            escape_name(&[byte], &mut escaped)?;
-            assert_eq!(rt; escaped.as_slice(), name);
-        }
-        Ok(())
-    }
-}

@@ -11,7 +11,6 @@ mod outside;
 pub use escape::{escape_name, escape_text, escaped_name_text, law_escaped_name, law_escaped_text};
 pub use host::host_dir::HostDir;
 pub use host::host_sink::HostSink;
-pub use memory::files::has_distinct_paths;
 pub use memory::mem_dir::MemDir;
 pub use memory::mem_sink::{MemSink, has_distinct_calls};
 pub use names::{MAX_NAMES, NameFault, Names};

@@ -21,7 +21,7 @@ pub enum NameFault {
 /// The names of a program, numbered from 0 in the order in which they were first met.
 ///
 /// A name is any byte string. It keeps its number for as long as the table lives, and no two numbers have one name.
-#[derive(Debug, Drop)]
+#[derive(Drop)]
 pub struct Names {
     set: IndexSet<Vec<u8>>,
 }
@@ -125,22 +125,4 @@ fn add_new(set: &mut IndexSet<Vec<u8>>, alloc: Global, text: &[u8]) -> Result<()
     let copy = Vec::from_slice(alloc, text)?;
     set.insert(copy)?;
     Ok(())
-}
-
-#[cfg(test)]
-mod tests {
-    use super::*;
-
-    #[test]
-    fn a_name_keeps_its_number(rt: HostRuntime) {
-        let mut names = Names::new(rt.alloc());
-        assert_eq!(rt; names.intern(rt.alloc(), b"java/lang/Object"), Ok(0));
-        assert_eq!(rt; names.intern(rt.alloc(), b"main"), Ok(1));
-        assert_eq!(rt; names.intern(rt.alloc(), b"java/lang/Object"), Ok(0));
-        assert_eq!(rt; names.len(), 2);
-        assert_eq!(rt; names.text(1), Some(b"main".as_slice()));
-        assert_eq!(rt; names.text(2), None);
-        assert_eq!(rt; names.find(b"main"), Some(1));
-        assert_eq!(rt; names.find(b"mai"), None);
-    }
 }

@@ -5,7 +5,7 @@ use std::alloc::{AllocError, Global};
 use std::marker::Model;
 
 /// A list of words of 64 bits each, the value of one property. A row has fewer than 2^32 words.
-#[derive(Debug, Drop)]
+#[derive(Drop)]
 pub struct Row {
     words: Vec<u64>,
 }
@@ -111,50 +111,4 @@ pub fn count(a: &Row) -> u64
         bits += u64::from(word.count_ones());
     }
     bits
-}
-
-#[cfg(test)]
-mod tests {
-    use super::*;
-    use std::test::Fail;
-
-    /// Whether the join of the first two rows is the third, with this answer, as soon as both have one length.
-    fn joins_to(
-        alloc: Global,
-        a: &[u64],
-        b: &[u64],
-        joined: &[u64],
-        changed: bool,
-    ) -> Result<bool, AllocError> {
-        let long = a.len() >= 8;
-        if long || a.len() != b.len() {
-            return Ok(false);
-        }
-        let mut into = Row::from_vec(a.to_vec(alloc)?);
-        let other = Row::from_vec(b.to_vec(alloc)?);
-        let was_within = within(&other, &into);
-        let answer = join(&mut into, &other);
-        Ok(answer == changed && was_within != changed && into.words() == joined)
-    }
-
-    #[test]
-    fn join_tells_a_change(rt: HostRuntime) -> Result<(), Fail> {
-        let top = u64::MAX;
-        assert!(rt; joins_to(rt.alloc(), &[], &[], &[], false)?);
-        assert!(rt; joins_to(rt.alloc(), &[0b0101], &[0b0011], &[0b0111], true)?);
-        assert!(rt; joins_to(rt.alloc(), &[0b0111], &[0b0011], &[0b0111], false)?);
-        assert!(rt; joins_to(rt.alloc(), &[0, top, 1], &[0, 0, 2], &[0, top, 3], true)?);
-        assert!(rt; joins_to(rt.alloc(), &[1, top, 1], &[0, 5, 1], &[1, top, 1], false)?);
-        Ok(())
-    }
-
-    #[test]
-    fn a_new_row_is_zero(rt: HostRuntime) -> Result<(), Fail> {
-        let row = Row::zero(rt.alloc(), 3)?;
-        assert_eq!(rt; row.words(), [0, 0, 0].as_slice());
-        assert_eq!(rt; count(&row), 0);
-        let row = Row::from_vec([0b1011, 0, u64::MAX].to_vec(rt.alloc())?);
-        assert_eq!(rt; count(&row), 67);
-        Ok(())
-    }
 }

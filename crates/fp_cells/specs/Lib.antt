@@ -4,3 +4,4 @@ pub mod Texts
 pub mod Lists
 pub mod Spots
 pub mod Entities
+pub mod Distinct

@@ -18,7 +18,7 @@ struct Spot {
 ///
 /// The value of a cell stands in its places, which hold 64 bits each: one place for each 64 bits, and at least one. The places are
 /// numbered from 0, cell after cell.
-#[derive(Debug, Drop)]
+#[derive(Drop)]
 pub struct Cells {
     // A map that keeps the order of adding. Its keys are numbers that the analyses give, and no names that an input could choose
     // to share a hash.
@@ -158,69 +158,4 @@ pub fn count_places(bits: u32) -> u32
     ensures { result ≡ places_of bits }
 {
     bits.div_ceil(64).max(1)
-}
-
-#[cfg(test)]
-mod tests {
-    use super::*;
-    use fp_model::SiteId;
-    use std::test::Fail;
-
-    /// Adds a cell of few bits that is not there yet.
-    fn add_new(
-        cells: &mut Cells,
-        kind: KindId,
-        entity: Entity,
-        bits: u32,
-    ) -> Result<Option<u32>, AllocError> {
-        if cells.find(kind, entity).is_some() || bits > 1000 || cells.places() > 1000 {
-            return Ok(None);
-        }
-        let place = cells.add(kind, entity, bits)?;
-        Ok(Some(place))
-    }
-
-    #[test]
-    fn a_place_leads_back_to_its_cell(rt: HostRuntime) -> Result<(), Fail> {
-        let site = Entity::Site(SiteId { method: 3, pc: 7 });
-        let mut cells = Cells::new(rt.alloc());
-        assert_eq!(rt; cells.cell_of(0), None);
-        assert_eq!(rt;
-            add_new(&mut cells, KindId::Reach, Entity::Method(3), 1)?,
-            Some(0)
-        );
-        assert_eq!(rt;
-            add_new(&mut cells, KindId::Leak, Entity::Method(3), 64)?,
-            Some(1)
-        );
-        assert_eq!(rt;
-            add_new(&mut cells, KindId::Purity, Entity::Method(3), 65)?,
-            Some(2)
-        );
-        assert_eq!(rt; add_new(&mut cells, KindId::Callees, site, 200)?, Some(4));
-        assert_eq!(rt;
-            add_new(&mut cells, KindId::Leak, Entity::Method(4), 0)?,
-            Some(8)
-        );
-        assert_eq!(rt; cells.places(), 9);
-        assert_eq!(rt; cells.find(KindId::Purity, Entity::Method(3)), Some(2));
-        assert_eq!(rt; cells.find(KindId::Purity, Entity::Class(3)), None);
-        assert_eq!(rt; cells.cell_of(0), Some((KindId::Reach, Entity::Method(3))));
-        assert_eq!(rt; cells.cell_of(3), Some((KindId::Purity, Entity::Method(3))));
-        assert_eq!(rt; cells.cell_of(4), Some((KindId::Callees, site)));
-        assert_eq!(rt; cells.cell_of(7), Some((KindId::Callees, site)));
-        assert_eq!(rt; cells.cell_of(8), Some((KindId::Leak, Entity::Method(4))));
-        assert_eq!(rt; cells.cell_of(9), None);
-        assert_eq!(rt; cells.begins(4), Some((KindId::Callees, site, 200)));
-        assert_eq!(rt; cells.begins(3), None);
-        assert_eq!(rt; cells.begins(8), Some((KindId::Leak, Entity::Method(4), 0)));
-        assert_eq!(rt; cells.begins(9), None);
-        assert_eq!(rt; cells.len(), 5);
-        assert_eq!(rt;
-            cells.cell(2),
-            Some((KindId::Purity, Entity::Method(3), 65))
-        );
-        assert_eq!(rt; cells.cell(5), None);
-        Ok(())
-    }
 }

@@ -1,14 +1,15 @@
 //! The names of kinds and entities, as reports and words have them.
-ghost use Rattle.std.specs.Prelude.{◌≡◌, ◌<◌, ◌++◌, ◌∷◌, length, OnOk, OnErr};
-ghost use Rattle.fp_model.specs.ClassSet.{fields_of, methods_of};
+ghost use Rattle.std.specs.Prelude.{◌≡◌, ◌<◌, ◌++◌, ◌∷◌, length, All, OnOk, OnErr};
+ghost use Rattle.fp_model.specs.ClassSet.{IsSet, SetView, fields_of, methods_of};
 ghost use Rattle.fp_model.specs.Descriptor.{text_of};
 ghost use Rattle.fp_cells.specs.Entities.{IsEntityOf, class_text, entity_text, kind_text};
-ghost use Rattle.fp_base.specs.Escape.{escaped_name};
+ghost use Rattle.fp_cells.specs.Distinct.{HasApartMembers, TellEntities};
+ghost use Rattle.fp_base.specs.Escape.{AreBytes, escaped_name};
 ghost use Rattle.fp_cells.specs.Lists.{Extends};
 
 use crate::kind::{Entity, KindId};
 use fp_base::{Names, escape_name, escape_text};
-use fp_model::{Class, ClassSet, FieldId, MethodId};
+use fp_model::{Class, ClassSet, FieldId, MethodId, name_text};
 use itoa::Buffer;
 use std::alloc::AllocError;
 
@@ -111,12 +112,8 @@ fn append_member(
     escape_name(name_text(names, member), to)
 }
 
-// The text of a name, or no text where the number is of none.
-fn name_text(names: &Names, number: u32) -> &[u8]
-    ensures { result.now ≡ text_of names.now number }
-{
-    match names.text(number) {
-        Some(text) => text,
-        None => &[],
-    }
-}
+/// No two entities of one kind have one text: classes, fields, methods and sites of a set whose classes have no two members of one
+/// name and descriptor, and whose names are byte strings.
+pub fn law_texts()
+    ensures { (set : SetView) → IsSet set → All AreBytes set.names → All HasApartMembers set.classes → TellEntities set }
+{}

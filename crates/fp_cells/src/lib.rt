@@ -8,7 +8,7 @@ mod text;
 mod view;
 
 pub use cells::{Cells, count_places, law_places};
-pub use entity::{append_entity, kind_text};
+pub use entity::{append_entity, kind_text, law_texts};
 pub use kind::{Entity, KindId};
 pub use text::value_text;
 pub use view::JavaView;

@@ -102,6 +102,3 @@ fn append_purity(words: &[u64], to: &mut Vec<u8>) -> Result<(), AllocError>
     to.extend_from_slice(if reads { b"scontext " } else { b"context " })?;
     append_numbers(words, 2, to)
 }
-
-#[cfg(test)]
-mod tests;

@@ -6,7 +6,6 @@ pub mod Facts
 pub mod Heads
 pub mod Marks
 pub mod MemberSpelled
-pub mod Memos
 pub mod MemberTexts
 pub mod LongerClasses
 mod LongerInstrs
@@ -22,10 +21,7 @@ pub mod SoundCodes
 pub mod Skipped
 pub mod OneClass
 pub mod Phases
-pub mod ReferenceTexts
 pub mod Sorts
 mod SoundInstrs
 pub mod SoundMethods
-mod Tables
-mod TakenTexts
 mod Walks

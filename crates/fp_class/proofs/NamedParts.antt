@@ -1,8 +1,7 @@
 -- The parts of a class in numbers of a table of names.
-use Rattle.std.proofs.Common.{◌≡◌, inl, inr, ℕ, ◌+◌, true, ◌&&◌, drop, Bool, zero, suc, ◌<◌, List, [], ◌∷◌, ◌++◌, map, Option, Some, None, length, refl, sym, ap, ◌∙◌, subst, arith}
+use Rattle.std.proofs.Common.{◌≡◌, ℕ, true, ◌&&◌, Bool, zero, suc, ◌<◌, List, [], ◌∷◌, map, Option, Some, None, length, refl, sym, ap, ◌∙◌, subst, arith}
 use Rattle.std.proofs.lemmas.List.Elements.{All-nil, All-cons}
-use Rattle.std.proofs.lemmas.Bool.{and_from, and_parts, both_ways, cases_lt, lt-ltb, ltb-true}
-use Rattle.std.proofs.lemmas.List.{take-append-drop}
+use Rattle.std.proofs.lemmas.Bool.{and_from, and_parts, lt-ltb, ltb-true}
 use Rattle.std.specs.List.{All, list_all, AllZip, slice_get}
 use Rattle.std.specs.Prelude.{nat_lt}
 use Rattle.std.specs.Option.{is_some, option_and_then, unwrap_or, IfSome}
@@ -11,9 +10,10 @@ use Rattle.fp_model.specs.declared.raw.pool.Entry.TheVariants as entry
 use Rattle.fp_model.specs.declared.kind.Kind.{Kind}
 use Rattle.fp_model.specs.declared.raw.RawMember.{RawMember}
 use Rattle.fp_model.specs.declared.class.Field.{Field}
+pub use Rattle.fp_ops.proofs.NamedParts.{passes-is_some, AllZip-to, AllZip-more}
 use Rattle.fp_class.specs.Classes.{IsFieldOf}
 use Rattle.fp_model.specs.ClassSet.{IsFieldOver}
-use Rattle.fp_model.specs.Descriptor.{is_field_descriptor, IsKindOf, StopsAt}
+use Rattle.fp_model.specs.Descriptor.{is_field_descriptor, IsKindOf}
 use Rattle.fp_model.specs.Entries.{passes, text_in, text_at, class_name_at}
 use Rattle.fp_model.specs.NamedInstructions.{is_entry_text}
 use Rattle.fp_model.proofs.LongerTables.{Keeps, IsKindOf-kept}
@@ -23,18 +23,6 @@ use Rattle.fp_class.specs.Interning.{IsClassName, IsParentName, IsNamedField}
 use Rattle.fp_class.specs.Naming.{is_sound_field}
 
 -- ---- lists place by place
-
-pub AllZip-to : {A B : Type 0} (P Q : A → B → Type 0) (xs : List A) (ys : List B) → ((x : A) (y : B) → P x y → Q x y) → AllZip P xs ys → AllZip Q xs ys
-AllZip-to P Q [] [] f all = tt
-AllZip-to P Q [] (y ∷ ys) f all = absurd all
-AllZip-to P Q (x ∷ xs) [] f all = absurd all
-AllZip-to P Q (x ∷ xs) (y ∷ ys) f all = (f x y all.0, AllZip-to P Q xs ys f all.1)
-
-pub AllZip-more : {A B : Type 0} (P : A → B → Type 0) (xs : List A) (ys : List B) (x : A) (y : B) → AllZip P xs ys → P x y → AllZip P (xs ++ x ∷ []) (ys ++ y ∷ [])
-AllZip-more P [] [] x y all one = (one, tt)
-AllZip-more P [] (b ∷ ys) x y all one = absurd all
-AllZip-more P (a ∷ xs) [] x y all one = absurd all
-AllZip-more P (a ∷ xs) (b ∷ ys) x y all one = (all.0, AllZip-more P xs ys x y all.1 one)
 
 pub AllZip-All : {A B : Type 0} (P : A → B → Type 0) (Q : A → Type 0) (xs : List A) (ys : List B) → ((x : A) (y : B) → P x y → Q x) → AllZip P xs ys → All Q xs
 AllZip-All P Q [] [] f all = All-nil Q
@@ -64,11 +52,6 @@ IsNamedField-kept names longer entries f member kept is = record {
 }
 
 -- ---- what is there
-
--- what passes a test is there
-pub passes-is_some : {A : Type 0} (test : A → Bool) (o : Option A) → passes test o ≡ true → is_some o ≡ true
-passes-is_some test None h = absurd (cc)
-passes-is_some test (Some x) h = refl
 
 -- the texts of a sound member
 pub record HasTexts (entries : List Entry) (member : RawMember) : Type 0 where
@@ -161,11 +144,3 @@ entry_passes test entries i short =
       | None ↦ λ at passed. passed
       | Some text ↦ λ at passed. and_from (nat_lt (length text) 65536) (test text) (lt-ltb (length text) 65536 (text_short entries i text short at)) passed
     ] refl
-
--- a text that passes the test has no bad place
-pub not_bad : (test : List ℕ → Bool) (text : List ℕ) (at : ℕ) → test text ≡ true → StopsAt test text at → ⊥
-not_bad test text at passes bad =
-    elim (cases_lt at (length text)) [
-      | inl lt ↦ bad.after lt (drop (at + 1) text, ap test (take-append-drop (at + 1) text) ∙ passes)
-      | inr ge ↦ both_ways (test text) (bad.whole (omega (arith, bad.within))) passes
-    ]

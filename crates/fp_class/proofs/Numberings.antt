@@ -8,6 +8,7 @@ use Rattle.fp_base.specs.Names.{has_name, with_name, with_names, AreDistinct}
 use Rattle.fp_base.proofs.NameLemmas.{with_name-known, with_name-new, slice_get-with_names, AreDistinct-nil, AreDistinct-with_names}
 use Rattle.fp_model.specs.declared.raw.pool.Entry.{Entry}
 use Rattle.fp_model.specs.Entries.{text_in, text_at}
+use Rattle.fp_ops.proofs.Memos.{text_within}
 use Rattle.fp_class.specs.Keys.{IsNumbering}
 
 -- a table gets at most one text more
@@ -48,12 +49,6 @@ one_numbered names longer entries numbers i n e so_far at number is few =
             ∙ subst (λ o. IfSome o (λ t. slice_get longer n ≡ Some t)) its number
       ];
     }
-
--- a text's index is one of the pool
-pub text_within : (entries : List Entry) (i : ℕ) (text : List ℕ) → text_at entries i ≡ Some text → i < length entries
-text_within [] i text at = absurd (cc)
-text_within (e ∷ entries) zero text at = omega arith
-text_within (e ∷ entries) (suc i) text at = omega (arith, text_within entries i text at)
 
 pub all_numbered : (names : List (List ℕ)) (entries : List Entry) (numbers : List ℕ) (i : ℕ) → IsNumberedTo names entries numbers i → i ≡ length entries → IsNumbering entries numbers
 all_numbered names entries numbers i done whole = record {

@@ -1,7 +1,8 @@
 -- Class files (JVMS SE 21 chapter 4): the file that bytes are, or the first fault in its phases.
-use Rattle.std.specs.Prelude.{◌≡◌, ℕ, ◌+◌, ◌<◌, ◌^◌, ◌==◌, nat_lt, Bool, true, false, ◌&&◌, ◌||◌, not, List, [], ◌∷◌, length, codes, bit_and, slice_index_or, Result, Ok, if◌then◌else◌}
+use Rattle.std.specs.Prelude.{◌≡◌, ℕ, ◌+◌, ◌<◌, ◌^◌, ◌==◌, nat_lt, Bool, true, false, ◌&&◌, ◌||◌, List, [], ◌∷◌, length, codes, slice_index_or, Result, Ok, if◌then◌else◌}
 use Rattle.std.specs.List.{list_any}
 use Rattle.std.specs.Str.{bytes_eq}
+pub use Rattle.fp_model.specs.Flags.{is_module}
 use Rattle.fp_model.specs.declared.fault.FileFault.{FileFault}
 use Rattle.fp_model.specs.declared.fault.FileFault.TheVariants as fault
 use Rattle.fp_model.specs.declared.raw.pool.Entry.{Entry}
@@ -21,10 +22,6 @@ use Rattle.fp_attr.specs.declared.owner.Owner.TheVariants as owner
 use Rattle.fp_class.specs.declared.layout.Layout.{Layout}
 use Rattle.fp_class.specs.Layout.{layout_of}
 use Rattle.fp_class.specs.Members.{counted_after, field_at, method_at}
-
--- the access flag ACC_MODULE
-abbrev pub is_module : ℕ → Bool
-is_module flags = not (bit_and flags 0x8000 == 0)
 
 -- the index of a superclass: a class, or 0 for `java/lang/Object` and in a module
 abbrev pub is_parent : List Entry → (flags this parent : ℕ) → Bool

@@ -5,14 +5,9 @@ use Rattle.fp_model.specs.declared.raw.RawMember.{RawMember}
 use Rattle.fp_model.specs.declared.class.Field.{Field}
 use Rattle.fp_model.specs.Entries.{text_at, class_name_at}
 use Rattle.fp_model.specs.Descriptor.{IsKindOf}
+pub use Rattle.fp_ops.specs.References.{IsClassName}
 
--- the number is that of the name of the class at an index
-pub record IsClassName (names : List (List ℕ)) (entries : List Entry) (n index : ℕ) : Type 0 where
-  pub text : List ℕ
-  pub number : slice_get names n ≡ Some text
-  pub name : class_name_at entries index ≡ Some text
-
--- the same, or no number where there is no class
+-- the number is that of the name of the class at an index, or there is no number where there is no class
 abbrev pub IsParentName : List (List ℕ) → List Entry → Option ℕ → ℕ → Type 0
 IsParentName names entries None index = class_name_at entries index ≡ None
 IsParentName names entries (Some n) index = IsClassName names entries n index

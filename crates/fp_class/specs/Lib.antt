@@ -6,9 +6,7 @@ pub mod Interning
 pub mod Keys
 pub mod Layout
 pub mod Members
-pub mod Memos
 pub mod MethodCode
 pub mod Methods
 pub mod Naming
-pub mod References
 pub mod Texts

@@ -1,5 +1,5 @@
 -- The fields and methods of a class file at an offset (JVMS SE 21 sections 4.5 and 4.6), behind those before.
-use Rattle.std.specs.Prelude.{ℕ, zero, suc, ◌+◌, ◌==◌, nat_le, Bool, false, ◌&&◌, not, List, [], ◌∷◌, ◌++◌, length, codes, bit_and, unwrap_or, Option, Some, None, Result, Ok, if◌then◌else◌}
+use Rattle.std.specs.Prelude.{ℕ, zero, suc, ◌+◌, ◌==◌, nat_le, Bool, false, ◌&&◌, not, List, [], ◌∷◌, ◌++◌, length, codes, unwrap_or, Option, Some, None, Result, Ok, if◌then◌else◌}
 use Rattle.std.specs.List.{list_any, filter}
 use Rattle.std.specs.Str.{bytes_eq}
 use Rattle.std.specs.Int.{w16, w32}
@@ -8,7 +8,7 @@ use Rattle.fp_model.specs.declared.fault.FileFault.TheVariants as fault
 use Rattle.fp_model.specs.declared.raw.pool.Entry.{Entry}
 use Rattle.fp_model.specs.declared.raw.RawMember.{RawMember}
 use Rattle.fp_model.specs.Descriptor.{is_field_descriptor, is_method_descriptor, parameter_words}
-use Rattle.fp_model.specs.Flags.{is_static}
+use Rattle.fp_model.specs.Flags.{is_static, lacks_code}
 use Rattle.fp_model.specs.Entries.{text_at}
 use Rattle.fp_model.specs.Reading.{behind, counted_at, demanded, number_at, ◌>>=◌}
 use Rattle.fp_model.specs.References.{tagged, text_checked}
@@ -53,10 +53,6 @@ field_at entries bytes before at = do
   has_type ← text_checked entries is_field_descriptor name.1 descr.0
   attributes ← counted_at (attribute_at entries owner.Field bytes) bytes descr.1
   Ok (record { flags = flags.0; name = name.0; descr = descr.0; attributes = attributes.0 }, attributes.1)
-
--- the access flags ACC_NATIVE and ACC_ABSTRACT
-abbrev pub lacks_code : ℕ → Bool
-lacks_code flags = not (bit_and flags 0x0500 == 0)
 
 -- the words of a method's arguments, the receiver of an instance method counted (section 4.3.3)
 abbrev pub argument_words : (flags : ℕ) → Option (List ℕ) → ℕ

@@ -1,18 +1,17 @@
 //! The code of a method in numbers of a table of names.
 ghost use Rattle.std.specs.Prelude.{◌≡◌, ◌<◌, length, true, IfOk, OnOk};
 ghost use Rattle.std.specs.List.{flat_map, AllZip};
-ghost use Rattle.fp_class.specs.Memos.{IsMemo};
+ghost use Rattle.fp_ops.specs.Memos.{IsMemo};
 ghost use Rattle.fp_class.specs.MethodCode.{code_texts, is_sound_code, row_texts, AreInstrsFrom, IsCodeOf, IsGuardOf};
 ghost use Rattle.fp_model.specs.Spelling.{spelled_ins};
 ghost use Rattle.fp_model.specs.Taking.{Taken};
 ghost use Rattle.fp_ops.specs.Checked.{are_sound_from};
 ghost use Rattle.fp_ops.specs.Forms.{instr_texts};
 
-use crate::forms::to_instr;
-use crate::memo::{Memo, empty_memo};
 use crate::naming::parent_name;
 use fp_base::{NameFault, Names};
 use fp_model::{BootRow, CatchRow, Code, Entry, Guard, Instr, Pool, RawCode, RawIns};
+use fp_ops::{Memo, empty_memo, instr_with};
 use sqlite_items::Items;
 use std::alloc::Global;
 
@@ -44,7 +43,7 @@ fn instructions(
     let mut instrs = Vec::new(alloc);
     let mut pc = 0;
     for ins in code {
-        let instr = to_instr(alloc, ins, pc, pool, boots, names, memo)?;
+        let instr = instr_with(alloc, ins, pc, pool, boots, names, memo)?;
         if instrs.push((pc, instr)).is_err() {
             return Err(NameFault::Memory);
         }

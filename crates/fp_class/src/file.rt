@@ -18,15 +18,13 @@ use crate::layout::{Layout, lay_out};
 use crate::members::{fields, methods};
 use crate::texts::read_texts;
 use fp_attr::{Owner, read_attr};
+use fp_model::flags::is_module;
 use fp_model::look_up::{class_name, is_class};
 use fp_model::reading::u16_at;
 use fp_model::{BootRow, Entry, FileFault, Pool, Raw, RawAttr, RawBody};
 use fp_pool::{check_references, entry_size};
 use sqlite_items::Items;
 use std::alloc::Global;
-
-/// The access flag of modules, ACC_MODULE.
-const MODULE: u16 = 0x8000;
 
 /// Where the first entry of the constant pool stands.
 const ENTRIES_START: u32 = 10;
@@ -45,7 +43,7 @@ fn is_object(entries: &[Entry], index: u16) -> bool
 fn is_parent(entries: &[Entry], flags: u16, this: u16, parent: u16) -> bool
     ensures { result ≡ file.is_parent entries.now flags this parent }
 {
-    is_class(entries, parent) || parent == 0 && (flags & MODULE != 0 || is_object(entries, this))
+    is_class(entries, parent) || parent == 0 && (is_module(flags) || is_object(entries, this))
 }
 
 /// Checks the superinterfaces, the first of which stands at an offset.

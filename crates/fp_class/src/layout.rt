@@ -16,7 +16,7 @@ use std::alloc::Global;
 const MAGIC: u32 = 0xCAFE_BABE;
 
 /// The parts of a class file up to its fields.
-#[derive(Debug, Drop)]
+#[derive(Drop)]
 pub struct Layout {
     pub minor: u16,
     pub major: u16,

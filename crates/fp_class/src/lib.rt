@@ -4,26 +4,15 @@
 mod code;
 mod descriptors;
 mod file;
-mod forms;
-mod instrs;
-mod kinds;
 mod law;
 mod layout;
 mod members;
-mod memo;
 mod methods;
 mod naming;
 mod numbers;
-mod references;
-mod sites;
 mod texts;
 
 pub use code::to_code;
 pub use file::read_class;
 pub use law::{law_one_class, law_sound_codes, law_sound_methods, law_spelling};
 pub use naming::to_class;
-
-#[cfg(test)]
-mod code_tests;
-#[cfg(test)]
-mod tests;

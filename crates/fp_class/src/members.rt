@@ -19,18 +19,13 @@ ghost use Rattle.fp_class.specs.Texts.{IsTexts};
 use crate::numbers::Key;
 use crate::texts::{Texts, is_field_type, parameter_words};
 use fp_attr::{Owner, read_attr};
+use fp_model::flags::{is_static, lacks_code};
 use fp_model::look_up::{UTF8, tag, text};
 use fp_model::reading::{behind, u16_at, u32_at};
 use fp_model::{Entry, FileFault, Pool, RawAttr, RawMember};
 use sqlite_items::Items;
 use std::alloc::{AllocError, Global};
 use std::collections::BTreeSet;
-
-/// The access flag ACC_STATIC.
-const STATIC: u16 = 0x0008;
-
-/// The access flags of methods without code: ACC_NATIVE and ACC_ABSTRACT.
-const NATIVE_OR_ABSTRACT: u16 = 0x0500;
 
 /// The most words that the arguments of a method take.
 const MOST_WORDS: u32 = 255;
@@ -291,11 +286,7 @@ fn with_receiver(flags: u16, words: u32) -> u32
     requires { words + 1 < 2 ^ 32 }
     ensures { result ≡ words + (if is_static flags then 0 else 1) }
 {
-    if flags & STATIC != 0 {
-        words
-    } else {
-        words + 1
-    }
+    if is_static(flags) { words } else { words + 1 }
 }
 
 /// The words of a method's arguments, by its flags and its descriptor; none where it is no descriptor of a method, or
@@ -340,11 +331,7 @@ fn words_at(
 fn wanted_codes(flags: u16) -> usize
     ensures { result ≡ members.wanted_codes flags }
 {
-    if flags & NATIVE_OR_ABSTRACT != 0 {
-        0
-    } else {
-        1
-    }
+    if lacks_code(flags) { 0 } else { 1 }
 }
 
 /// A method at an offset, behind those before, and the offset after it.

@@ -2,7 +2,7 @@
 ghost use Rattle.std.specs.Prelude.{◌≡◌, option_copied, true, All, IfOk, IfSome, IsTrue, OnOk};
 ghost use Rattle.std.specs.List.{flat_map, list_all, AllZip};
 ghost use Rattle.fp_class.specs.Classes.{method_names, IsCodeAmong};
-ghost use Rattle.fp_class.specs.Memos.{IsMemo};
+ghost use Rattle.fp_ops.specs.Memos.{IsMemo};
 ghost use Rattle.fp_class.specs.MethodCode.{code_texts, is_sound_code};
 ghost use Rattle.fp_class.specs.Methods.{code_of};
 ghost use Rattle.fp_class.specs.Naming.{is_sound_method, HasSoundCode, IsNamedMethod};
@@ -11,11 +11,10 @@ ghost use Rattle.fp_model.specs.Taking.{Taken};
 ghost use Rattle.fp_ops.specs.Checked.{is_short_entry};
 
 use crate::code::code_with;
-use crate::kinds::kinds_at;
-use crate::memo::Memo;
-use crate::naming::text;
 use fp_base::{NameFault, Names};
 use fp_model::{BootRow, Code, Method, Pool, RawAttr, RawBody, RawCode, RawMember};
+use fp_ops::naming::text;
+use fp_ops::{Memo, kinds_at};
 use sqlite_items::Items;
 use std::alloc::Global;
 

@@ -8,85 +8,21 @@ ghost use Rattle.fp_model.specs.Interning.{Interned};
 ghost use Rattle.fp_model.specs.SoundCode.{IsSoundMethod};
 ghost use Rattle.fp_model.specs.Taking.{Taken};
 ghost use Rattle.fp_ops.specs.Checked.{is_short_entry};
-ghost use Rattle.fp_class.specs.ClassFile.{is_module, IsWellFormed};
+ghost use Rattle.fp_class.specs.ClassFile as file;
+ghost use Rattle.fp_class.specs.ClassFile.{IsWellFormed};
 ghost use Rattle.fp_class.specs.Interning.{IsClassName, IsNamedField, IsParentName};
-ghost use Rattle.fp_class.specs.Memos.{IsMemo};
+ghost use Rattle.fp_ops.specs.Memos.{IsMemo};
 ghost use Rattle.fp_class.specs.Naming.{is_sound_field, taken_names};
 
 use crate::file::boot_rows;
-use crate::kinds::kind_at;
-use crate::memo::{Memo, empty_memo, keep_number, known_number};
 use crate::methods::methods;
 use fp_base::{NameFault, Names};
+use fp_model::flags::is_module;
 use fp_model::{Class, Entry, Field, Raw, RawMember, look_up};
-use sqlite_items::{Items, at};
+use fp_ops::naming::{class_name, text};
+use fp_ops::{Memo, empty_memo, kind_at};
+use sqlite_items::Items;
 use std::alloc::Global;
-
-/// The access flag of a module.
-const ACC_MODULE: u16 = 0x8000;
-
-/// The number of the text at an index, whatever is known of it.
-fn intern_text(
-    alloc: Global,
-    entries: &[Entry],
-    index: u16,
-    names: &mut Names,
-) -> Result<u32, NameFault>
-    requires { is_some (text_at entries.now index) ≡ true }
-    ensures number { IfOk result (λ n. slice_get names.new n ≡ text_at entries.now index) }
-    ensures names { Interned result names.old names.new (unwrap_or (text_at entries.now index) [] ∷ []) }
-{
-    match look_up::text(entries, index) {
-        Some(text) => names.intern(alloc, text),
-        None => unreachable!(),
-    }
-}
-
-/// The number of the text at an index, which is then known.
-pub fn text(
-    alloc: Global,
-    entries: &[Entry],
-    index: u16,
-    names: &mut Names,
-    memo: &mut Memo,
-) -> Result<u32, NameFault>
-    requires there { is_some (text_at entries.now index) ≡ true }
-    requires memo { IsMemo names.old entries.now memo.old }
-    ensures number { IfOk result (λ n. slice_get names.new n ≡ text_at entries.now index) }
-    ensures names { Interned result names.old names.new (unwrap_or (text_at entries.now index) [] ∷ []) }
-    ensures memo { OnOk result (IsMemo names.new entries.now memo.new) }
-{
-    if let Some(number) = known_number(memo, index) {
-        return Ok(number);
-    }
-    match intern_text(alloc, entries, index, names) {
-        Ok(number) => {
-            keep_number(memo, index, number);
-            Ok(number)
-        }
-        Err(fault) => Err(fault),
-    }
-}
-
-/// The number of the name of the class at an index.
-pub fn class_name(
-    alloc: Global,
-    entries: &[Entry],
-    index: u16,
-    names: &mut Names,
-    memo: &mut Memo,
-) -> Result<u32, NameFault>
-    requires there { is_some (class_name_at entries.now index) ≡ true }
-    requires memo { IsMemo names.old entries.now memo.old }
-    ensures number { IfOk result (λ n. IsClassName names.new entries.now n index) }
-    ensures names { Interned result names.old names.new (option_to_list (class_name_at entries.now index)) }
-    ensures memo { OnOk result (IsMemo names.new entries.now memo.new) }
-{
-    match at(entries, index as usize) {
-        Some(Entry::Class(name)) => text(alloc, entries, *name, names, memo),
-        _ => unreachable!(),
-    }
-}
 
 /// The number of the name of the superclass, if there is one.
 pub fn parent_name(
@@ -223,12 +159,12 @@ pub fn to_class(alloc: Global, raw: &Raw, names: &mut Names) -> Result<Option<Cl
     // The code of its methods is sound.
     ensures sound { IfOk result (λ c. IfSome c (λ class. All IsSoundMethod class.methods)) }
     // There is none exactly for a module.
-    ensures none { IfOk result (λ c. IsNone c ↔ (is_module raw.now.flags ≡ true)) }
+    ensures none { IfOk result (λ c. IsNone c ↔ (file.is_module raw.now.flags ≡ true)) }
     // The table has each text of the class once, behind what it had; it is full only where it would have too many with all
     // of these.
     ensures names { Taken result names.old names.new (taken_names raw.now) }
 {
-    if raw.flags & ACC_MODULE != 0 {
+    if is_module(raw.flags) {
         return Ok(None);
     }
     match class(alloc, raw, names) {

@@ -7,6 +7,7 @@ pub mod MakerLemmas
 pub mod ReadingLemmas
 pub mod Joins
 pub mod Flags
+pub mod Needed
 pub mod SumLemmas
 pub mod Pairs
 pub mod OnDemand

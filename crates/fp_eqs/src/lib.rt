@@ -8,6 +8,7 @@ mod both;
 mod counted;
 mod demo;
 mod gives;
+mod laws;
 mod naming;
 mod plain;
 mod solved;
@@ -20,11 +21,9 @@ pub use both::Both;
 pub use counted::Counted;
 pub use demo::Demo;
 pub use gives::Gives;
+pub use laws::{law_demand, law_solution};
 pub use naming::Naming;
 pub use plain::rounds;
 pub use solved::Solved;
 pub use start::{Bound, Start};
 pub use system::System;
-
-#[cfg(test)]
-mod tests;

@@ -4,7 +4,7 @@ ghost use Rattle.fp_eqs.specs.Solution.{IsLeastSolution, solution};
 ghost use Rattle.fp_eqs.specs.Solved.{IsSolved, flag_at};
 
 mod known;
-mod started;
+mod needs;
 mod values;
 mod wanted;
 
@@ -15,11 +15,10 @@ use std::alloc::{AllocError, Global};
 use values::solved_values;
 use wanted::wanted_places;
 
-/// Solves a system by whole rounds over all places and tasks, as the definitions of solution and
-/// demand do.
+/// Solves a system: its values by whole rounds over all places and tasks, as the definition of its
+/// solution does, and then its demand by starting each task at most once.
 ///
-/// It is plain and slow: one round per bit of the system and one more, and then one per place and
-/// one more.
+/// It is plain and slow: one round per bit of the system and one more, at most.
 pub fn rounds<S: System>(alloc: Global, system: &S) -> Result<Solved, AllocError>
     ensures solved { IfOk result (IsSolved (S.equations system.now)) }
     ensures solution { IfOk result (λ s. slice_index s.values ≡ solution (S.equations system.now)) }

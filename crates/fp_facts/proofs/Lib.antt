@@ -26,3 +26,9 @@ pub mod SoundEntries
 pub mod LabelShapes
 pub mod ShapedEffects
 pub mod ShapedMoves
+pub mod ListedNumbers
+pub mod SeedRounds
+pub mod BegunClasses
+pub mod ClosedSuperclasses
+pub mod MetNames
+pub mod ClosedAncestors

@@ -1,5 +1,5 @@
 -- The hierarchy of a set of classes: superclasses, superinterfaces, and which names a class goes by (JVMS SE 21 sections 4.1 and 5.4.3).
-use Rattle.std.specs.Prelude.{ℕ, zero, suc, ◌+◌, ◌==◌, Bool, not, ◌&&◌, ◌||◌, List, [], ◌∷◌, ◌++◌, length, codes, fold, bit_and, slice_get, slice_index, is_none, Option, Some, None, option_and_then, if◌then◌else◌}
+use Rattle.std.specs.Prelude.{◌≡◌, ℕ, IsTrue, zero, suc, ◌+◌, ◌==◌, Bool, not, ◌&&◌, ◌||◌, List, [], ◌∷◌, ◌++◌, length, codes, fold, bit_and, slice_get, slice_index, is_none, Option, Some, None, option_and_then, if◌then◌else◌}
 use Rattle.std.specs.List.{list_any, flat_map}
 use Rattle.std.specs.Option.{option_map_or, option_to_list}
 use Rattle.std.specs.Str.{bytes_eq}
@@ -76,6 +76,15 @@ superinterfaces_at classes id = option_map_or (superinterfaces classes) (slice_g
 -- superinterfaces of the class and of these; what a name gives is given where it stands first
 abbrev pub ancestors : List Class → Class → List ℕ
 ancestors classes c = superclasses classes c ++ flat_map (superinterfaces_at classes) (class_and_above classes c)
+
+-- the ancestors hold the superclass of the class and of each of its superclasses, and the superinterfaces of the class and of each of
+-- them that is in the set
+pub record AreClosed (classes : List Class) (c : Class) : Type 0 where
+  pub superclass : (above : ℕ) → c.parent ≡ Some above → IsTrue (has_number (superclasses classes c) above)
+  pub superclasses_above : (name above : ℕ) (d : Class) → IsTrue (has_number (superclasses classes c) name) → class_of_name classes name ≡ Some d → d.parent ≡ Some above → IsTrue (has_number (superclasses classes c) above)
+  pub superclasses_among : (name : ℕ) → IsTrue (has_number (superclasses classes c) name) → IsTrue (has_number (ancestors classes c) name)
+  pub interfaces : (above : ℕ) → IsTrue (has_number c.interfaces above) → IsTrue (has_number (ancestors classes c) above)
+  pub interfaces_above : (name above : ℕ) (d : Class) → IsTrue (has_number (ancestors classes c) name) → class_of_name classes name ≡ Some d → IsTrue (has_number d.interfaces above) → IsTrue (has_number (ancestors classes c) above)
 
 -- ---- which names a class goes by
 

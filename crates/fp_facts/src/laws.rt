@@ -1,5 +1,7 @@
-ghost use Rattle.std.specs.Prelude.{◌≡◌, ◌<◌, ◌⊎◌, ℕ, ◌≤◌, Bool, false, IsTrue, List, length, map, All, Some};
+ghost use Rattle.std.specs.Prelude.{◌≡◌, ◌<◌, ◌⊎◌, ℕ, ◌≤◌, Bool, false, IsTrue, List, length, map, slice_get, All, Some};
 ghost use Rattle.std.specs.List.{list_all};
+ghost use Rattle.fp_model.specs.ClassSet.{IsSound, SetView};
+ghost use Rattle.fp_model.specs.declared.class.Class.{Class};
 ghost use Rattle.fp_model.specs.declared.class.Code.{Code};
 ghost use Rattle.fp_model.specs.declared.class.Method.{Method};
 ghost use Rattle.fp_model.specs.declared.class.instr.Instr.{Instr};
@@ -10,10 +12,13 @@ ghost use Rattle.fp_facts.specs.Lattices.{Lattice, IsLattice, IsAllBelow, least_
 ghost use Rattle.fp_facts.specs.Dataflow.{Edge, Problem, solution, IsSettled, IsLawful, IsLeastFlow, Reaches};
 ghost use Rattle.fp_facts.specs.Frames.{frames};
 ghost use Rattle.fp_facts.specs.Edges.{edges_of};
+ghost use Rattle.fp_facts.specs.Hierarchy.{AreClosed};
+ghost use Rattle.fp_facts.specs.Initialisation.{AreBegun, begins};
 ghost use Rattle.fp_facts.specs.Effects.{effect_of};
 ghost use Rattle.fp_facts.specs.Kinded.{IsKindedCode};
 ghost use Rattle.fp_facts.specs.Moves.{map_label, moves_problem, same_label_shape};
 ghost use Rattle.fp_facts.specs.Origins.{made_sorts};
+ghost use Rattle.fp_facts.specs.Seeds.{AreLeastSeeds, seeds};
 ghost use Rattle.fp_facts.specs.Sorts.{argument_words, join_sorts, sorts};
 ghost use Rattle.fp_facts.specs.Transfer.{frame_before, is_unreached, kinds_problem};
 
@@ -80,23 +85,20 @@ pub fn law_moves_shape<W>()
     ensures { (m : Method) (code : Code) (w : Lattice W) (none caught : W) (made : ℕ × Instr → List W) (arguments : List W) → IsSoundMethod m → m.code ≡ Some code → IsKindedCode m code → All (λ e. (e.0 < length code.instrs) × (e.1 < length code.instrs)) (edges_of code) → length arguments ≡ length (argument_words m) → ((i : ℕ × Instr) → length (made i) ≡ length (made_sorts (effect_of i.1))) → IsLawful (moves_problem w none caught code made arguments (edges_of code)) → (p : ℕ) → IsTrue (same_label_shape (solution (moves_problem w none caught code made arguments (edges_of code)) p) (frame_before m code p)) }
 {}
 
-#[cfg(test)]
-mod tests {
-    use super::*;
+/// A law: the seed classes are the least set of classes that holds the concrete ones which go by a type of a root, and with each class
+/// those which go by a type of its instance fields.
+pub fn law_seeds()
+    ensures { (classes : List Class) (roots : List ℕ) → AreLeastSeeds classes roots (seeds classes roots) }
+{}
 
-    #[test]
-    fn the_laws_can_be_called_at_a_type(_rt: HostRuntime) {
-        law_least_solution::<u64>();
-        law_least_flow::<u64>();
-        law_same_solution::<u64>();
-        law_reaches();
-        law_frames::<u64>();
-        law_sorts();
-        law_kinds();
-        law_reached();
-        law_moves::<u64>();
-        law_moves_reached::<u64>();
-        law_moves_map::<u64, bool>();
-        law_moves_shape::<u64>();
-    }
-}
+/// A law: the classes that a code begins to initialise are those with an initialiser among the classes, with their ancestors, that an
+/// instruction which a way leads to makes an object of, or whose static member it means (JVMS SE 21 section 5.5).
+pub fn law_begins()
+    ensures { (set : SetView) (m : Method) (code : Code) → AreBegun set m code (begins set m code) }
+{}
+
+/// A law: the ancestors of a class of a sound set are closed: they hold its superclass and that of each of its superclasses, and its
+/// superinterfaces and those of each ancestor in the set.
+pub fn law_ancestors()
+    ensures { (classes : List Class) (id : ℕ) (c : Class) → IsSound classes → slice_get classes id ≡ Some c → AreClosed classes c }
+{}

@@ -15,8 +15,9 @@ pub use effect::{Effect, Shuffling};
 pub use facts::{Access, AccessForm, Assumed, CallSite, Facts, MethodFacts};
 pub use label::Label;
 pub use laws::{
-    law_frames, law_kinds, law_least_flow, law_least_solution, law_moves, law_moves_map,
-    law_moves_reached, law_moves_shape, law_reached, law_reaches, law_same_solution, law_sorts,
+    law_ancestors, law_begins, law_frames, law_kinds, law_least_flow, law_least_solution,
+    law_moves, law_moves_map, law_moves_reached, law_moves_shape, law_reached, law_reaches,
+    law_same_solution, law_seeds, law_sorts,
 };
 pub use loaded::Loaded;
 pub use origin::Origin;

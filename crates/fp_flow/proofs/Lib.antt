@@ -1,6 +1,7 @@
 mod Ranges
 mod Visits
 pub mod Counting
+pub mod CountedEdges
 pub mod EdgeLaws
 pub mod Extending
 pub mod Nearness

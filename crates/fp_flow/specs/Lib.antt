@@ -1,4 +1,5 @@
 pub mod Ascending
+pub mod EdgeCounts
 pub mod Handlers
 pub mod Plain
 pub mod Reached

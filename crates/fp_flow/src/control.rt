@@ -1,16 +1,15 @@
-ghost use Rattle.std.specs.Prelude.{◌≡◌, ◌+◌, ◌<◌, ◌^◌, ◌++◌, false, true, map, filter, IfOk, OnOk};
+ghost use Rattle.std.specs.Prelude.{◌≡◌, ℕ, ◌+◌, ◌<◌, ◌≤◌, ◌^◌, ◌++◌, false, true, length, map, filter, sum_by, IfOk, OnOk};
 ghost use Rattle.fp_model.specs.SoundCode.{IsSoundCode, ascend_from_0, branches_to, pcs_of};
 ghost use Rattle.fp_facts.specs.Edges as defined;
 ghost use Rattle.fp_facts.specs.Edges.{edges_from, edges_of, next_edges};
+ghost use Rattle.fp_flow.specs.EdgeCounts.{IsCount, covered_count, most_edges, plain_count};
 ghost use Rattle.fp_flow.specs.Handlers.{handler_of, is_active};
 
 mod handlers;
 mod laws;
 mod offsets;
-#[cfg(test)]
-mod tests;
 
-use fp_model::{Code, Instr};
+use fp_model::{Code, Guard, Instr};
 use handlers::{Handler, Near, handlers_of};
 pub use laws::law_edges;
 use offsets::{count_before, number_of, offsets_of};
@@ -37,7 +36,8 @@ pub struct Flow {
 /// are answered by want of memory.
 pub fn edges(alloc: Global, code: &Code) -> Result<Flow, AllocError>
     requires { IsSoundCode code.now }
-    ensures { IfOk result (λ flow. flow.edges ≡ edges_of code.now) }
+    ensures edges { IfOk result (λ flow. flow.edges ≡ edges_of code.now) }
+    ensures few { IfOk result (λ flow. length flow.edges ≤ 67108864) }
 {
     let pcs = offsets_of(alloc, code)?;
     let count = count_edges(code, pcs.as_slice());
@@ -57,20 +57,52 @@ pub fn edges(alloc: Global, code: &Code) -> Result<Flow, AllocError>
     })
 }
 
-// How many edges there are. The last instruction counts as if there were a next one.
-fn count_edges(code: &Code, pcs: &[u16]) -> u64 {
+// How many edges there are at most.
+fn count_edges(code: &Code, pcs: &[u16]) -> u64
+    requires { ascend_from_0 pcs.now ≡ true }
+    ensures { IsCount result (most_edges code.now pcs.now) }
+{
+    count_plain(code).saturating_add(count_covered(code, pcs))
+}
+
+// How many edges lead to next instructions and to branch targets, where the last instruction counts as if there were a next one.
+fn count_plain(code: &Code) -> u64
+    ensures { IsCount result (sum_by plain_count code.now.instrs) }
+{
     let mut count: u64 = 0;
-    for (_, instr) in code.instrs.as_slice() {
-        let next = u64::from(falls_through(instr));
-        let targets = targets(instr).len() as u64;
-        count = count.saturating_add(next).saturating_add(targets);
-    }
-    for row in code.rows.as_slice() {
-        let behind = count_before(pcs, row.end);
-        let covered = behind.saturating_sub(count_before(pcs, row.start));
-        count = count.saturating_add(covered as u64);
+    for placed in code.instrs.as_slice() {
+        count = count.saturating_add(plain_edges(&placed.1));
     }
     count
+}
+
+// Those of one instruction.
+fn plain_edges(instr: &Instr) -> u64
+    ensures { (pc : ℕ) → result ≡ plain_count (pc, instr.now) }
+{
+    let next = u64::from(falls_through(instr));
+    next + targets(instr).len() as u64
+}
+
+// How many edges lead to handlers.
+fn count_covered(code: &Code, pcs: &[u16]) -> u64
+    requires { ascend_from_0 pcs.now ≡ true }
+    ensures { IsCount result (sum_by (covered_count pcs.now) code.now.rows) }
+{
+    let mut count: u64 = 0;
+    for row in code.rows.as_slice() {
+        count = count.saturating_add(covered_edges(pcs, row));
+    }
+    count
+}
+
+// Those of one row of the exception table.
+fn covered_edges(pcs: &[u16], row: &Guard) -> u64
+    requires { ascend_from_0 pcs.now ≡ true }
+    ensures { result ≡ covered_count pcs.now row.now }
+{
+    let behind = count_before(pcs, row.end);
+    behind.saturating_sub(count_before(pcs, row.start)) as u64
 }
 
 // The edges, by the offsets of the instructions and the handlers. There is room for so many at first.

@@ -6,6 +6,7 @@ mod count;
 mod dataflow;
 mod effects;
 mod sorts;
+mod words;
 mod worklist;
 
 pub use control::{Flow, MOST_EDGES, edges, law_edges};
@@ -13,4 +14,5 @@ pub use count::instr_count;
 pub use dataflow::Dataflow;
 pub use effects::{effect, return_takes};
 pub use sorts::{argument_words, is_wide, push_kinds, push_words, result_words, sort_of, words_of};
+pub use words::{entry_label, first_labels, shuffled, without_top, word_at, word_at_depth};
 pub use worklist::solve;

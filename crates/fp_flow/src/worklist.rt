@@ -4,8 +4,6 @@ ghost use Rattle.fp_flow.specs.Ascending.{IsAscending};
 
 mod list;
 mod starts;
-#[cfg(test)]
-mod tests;
 mod visit;
 
 use crate::dataflow::Dataflow;

@@ -1,77 +1,52 @@
 -- Where the bits of rows stand, and what a write leaves.
-use Rattle.std.proofs.Common.{◌≡◌, ◌≢◌, ◌<◌, ◌≤◌, ◌+◌, ◌*◌, ◌/◌, ◌%◌, ◌^◌, ◌==◌, ℕ, Bool, true, false, List, [], length, map, get_or, set, bit_or, sym, ap, ◌∙◌, arith, subst, ⊎_elim, w64}
+use Rattle.std.proofs.Common.{◌≡◌, ◌≢◌, ◌<◌, ◌≤◌, ◌+◌, ◌*◌, ◌/◌, ◌%◌, ◌^◌, ◌==◌, ◌&&◌, ◌||◌, nat_lt, max, ℕ, zero, suc, Bool, true, false, List, length, get_or, set, bit_or, replicate, refl, sym, ap, ◌∙◌, arith, ⊎_elim, w64}
 use Rattle.std.specs.Int.{bit_at}
-use Rattle.std.specs.List.{range_with_len}
-use Rattle.std.proofs.lemmas.Bool.{cases_eq}
-use Rattle.std.proofs.lemmas.List.{ext_get_or, get_or-set_same, get_or-set_other, length-set}
-use Rattle.std.proofs.lemmas.List.FromFn.{length-map-range_with_len, get_or-map-range_with_len, fill_by_all}
-use Rattle.std.proofs.lemmas.Nat.{mul-add-lt, same_from_place, div_below, mod_below, row_fits}
-use Rattle.std.proofs.lemmas.Nat.Bits.{bit_at_set_same, bit_at_set_other}
+use Rattle.std.proofs.lemmas.Bool.{cases_eq, cases_lt, eq-eqb, le-ltb, lt-ltb, ne_eqb}
+use Rattle.std.proofs.lemmas.List.{get_or-replicate, get_or-set_same, get_or-set_other, get_or_past, length-replicate, length-set}
+use Rattle.std.proofs.lemmas.Nat.{mul-add-lt, same_from_place, div_below, mod_below}
+use Rattle.std.proofs.lemmas.Nat.Bits.{bit_at-lt, bit_at-zero, bit_at_or, bit_at_set_same, bit_at_set_other}
 use Rattle.std.proofs.Math.Nat.{mul_comm}
-use Rattle.fp_hier.specs.BitRows.{BitTable, HoldsRows, bit_in, row_in, rows_in}
-
--- ---- lists by rows and columns
-
-abbrev pub grid : (ℕ → ℕ → Bool) → (rows columns : ℕ) → List (List Bool)
-grid f rows columns = map (λ row. map (f row) (range_with_len 0 columns)) (range_with_len 0 rows)
-
-grid-row : (f : ℕ → ℕ → Bool) (rows columns row : ℕ) → row < rows → get_or (grid f rows columns) row [] ≡ map (f row) (range_with_len 0 columns)
-grid-row f rows columns row h = get_or-map-range_with_len (λ row. map (f row) (range_with_len 0 columns)) 0 rows row row [] h (omega arith)
-
--- one row has become another one
-pub grid-changed : (f g : ℕ → ℕ → Bool) (rows columns row : ℕ) (line : List Bool) → length line ≡ columns
-    → ((r c : ℕ) → r < rows → c < columns → r ≢ row → g r c ≡ f r c) → ((c : ℕ) → c < columns → get_or line c false ≡ g row c)
-    → grid g rows columns ≡ set (grid f rows columns) row line
-grid-changed f g rows columns row line long others own =
-    let lines : (h : ℕ → ℕ → Bool) → length (grid h rows columns) ≡ rows = λ h. length-map-range_with_len (λ row. map (h row) (range_with_len 0 columns)) 0 rows in
-    ext_get_or [] (grid g rows columns) (set (grid f rows columns) row line) (lines g ∙ sym (length-set (grid f rows columns) row line ∙ lines f)) (λ i within.
-    let there : i < rows = omega (arith, within, lines g) in
-    grid-row g rows columns i there ∙ (⊎_elim
-    (λ same. subst (λ k. map (g k) (range_with_len 0 columns) ≡ get_or (set (grid f rows columns) row line) k []) (sym same)
-    (sym (get_or-set_same (grid f rows columns) row line [] (omega (arith, there, same, lines f)) ∙ fill_by_all (g row) line columns false long own)))
-    (λ other. sym (get_or-set_other (grid f rows columns) row i line [] other ∙ grid-row f rows columns i there
-    ∙ fill_by_all (g i) (map (f i) (range_with_len 0 columns)) columns false (length-map-range_with_len (f i) 0 columns)
-    (λ c k. get_or-map-range_with_len (f i) 0 columns c c false k (omega arith) ∙ sym (others i c there k other)))) (cases_eq i row)))
+use Rattle.fp_hier.specs.BitRows.{HoldsRows, Marks, bit_in, bit_of}
+use Rattle.fp_hier.specs.declared.bit_rows.BitRows.{BitRows}
 
 -- ---- the places
 
-module _ (t : BitTable) (words : List ℕ) (width columns rows : ℕ) (is : record { columns = columns; rows = rows_in words width columns rows } ≡ t)
-    (holds : HoldsRows words width columns rows) where
-  pub rows-are : t.rows ≡ rows_in words width columns rows
-  rows-are = sym (ap (λ (t : BitTable). t.rows) is)
+module _ (t : BitRows) (holds : HoldsRows t) where
+  pub word-within : (index column : ℕ) → index < t.height → column < t.columns → index * t.columns + column < length t.words.items
+  word-within index column h k = omega (arith, mul-add-lt index t.columns column t.height h k, mul_comm t.columns t.height, holds.all_words)
 
-  pub columns-are : t.columns ≡ columns
-  columns-are = sym (ap (λ (t : BitTable). t.columns) is)
+  pub index-within : (row : ℕ) → row < t.rows → row / 64 < t.height
+  index-within row h = div_below row 64 t.height (omega arith) (omega (arith, h, holds.enough))
 
-  pub rows-length : length t.rows ≡ rows
-  rows-length = ap length rows-are ∙ length-map-range_with_len (row_in words width columns) 0 rows
+  pub bit-within : (row column : ℕ) → row < t.rows → column < t.columns → row / 64 * t.columns + column < length t.words.items
+  bit-within row column h k = word-within (row / 64) column (index-within row h) k
 
-  pub row-is : (row : ℕ) → row < length t.rows → get_or t.rows row [] ≡ row_in words width columns row
-  row-is row h = ap (λ l. get_or l row []) rows-are ∙ grid-row (bit_in words width) rows columns row (omega (arith, h, rows-length))
+-- ---- no bit is set
 
-  pub row-long : (row : ℕ) → row < length t.rows → length (get_or t.rows row []) ≡ t.columns
-  row-long row h = ap length (row-is row h) ∙ length-map-range_with_len (bit_in words width row) 0 columns ∙ sym columns-are
+no-word : (count i : ℕ) → ◌≡◌ {A = ℕ} (get_or (replicate count 0) i 0) 0
+no-word count i =
+    ⊎_elim (λ h. get_or-replicate {A = ℕ} count i 0 0 h) (λ h. get_or_past (replicate {A = ℕ} count 0) i 0 (omega (arith, h, length-replicate {A = ℕ} count 0))) (cases_lt i count)
 
-  pub word-within : (row index : ℕ) → row < length t.rows → index < width → row * width + index < length words
-  word-within row index h k = omega (arith, mul-add-lt row width index rows (omega (arith, h, rows-length)) k, mul_comm width rows, holds.all_words)
+pub no-bit : (words : List ℕ) (count columns row column : ℕ) → words ≡ replicate count 0 → bit_in words columns row column ≡ false
+no-bit words count columns row column is =
+    ap (λ (l : List ℕ). bit_in l columns row column) is
+    ∙ ap (λ (w : ℕ). bit_at w (row % 64) == 1) (no-word count (row / 64 * columns + column))
+    ∙ ap (λ (n : ℕ). n == 1) (bit_at-zero (row % 64))
 
-  pub row-room : (row : ℕ) → row < length t.rows → row * width + width ≤ length words
-  row-room row h = omega (arith, row_fits row width rows width (omega (arith, h, rows-length)) (omega arith), holds.all_words)
+-- ---- tests
 
-  pub index-within : (column : ℕ) → column < t.columns → column / 64 < width
-  index-within column k = div_below column 64 width (omega arith) (omega (arith, k, columns-are, holds.enough))
+or-set : (b x y : Bool) → x ≡ true → y ≡ true → true ≡ (b || (x && y))
+or-set true x y first second = refl
+or-set false x y first second = sym (ap (λ (t : Bool). t && y) first ∙ second)
 
-  pub bit-within : (row column : ℕ) → row < length t.rows → column < t.columns → row * width + column / 64 < length words
-  bit-within row column h k = word-within row (column / 64) h (index-within column k)
+or-row : (b x y : Bool) → y ≡ false → b ≡ (b || (x && y))
+or-row true x y other = refl
+or-row false true y other = sym other
+or-row false false y other = refl
 
-  pub bit-is : (row column : ℕ) → row < length t.rows → column < t.columns → get_or (get_or t.rows row []) column false ≡ bit_in words width row column
-  bit-is row column h k =
-      ap (λ l. get_or l column false) (row-is row h)
-      ∙ get_or-map-range_with_len (bit_in words width row) 0 columns column column false (omega (arith, k, columns-are)) (omega arith)
-
--- rows of as many columns have as many words
-pub same-width : (words others : List ℕ) (width wide columns rows lines : ℕ) → HoldsRows words width columns rows → HoldsRows others wide columns lines → wide ≡ width
-same-width words others width wide columns rows lines h k = omega (arith, h.enough, h.no_more, k.enough, k.no_more)
+or-column : (b x y : Bool) → x ≡ false → b ≡ (b || (x && y))
+or-column true x y other = refl
+or-column false x y other = sym (ap (λ (t : Bool). t && y) other)
 
 -- ---- a bit is set
 
@@ -79,60 +54,168 @@ same-width words others width wide columns rows lines h k = omega (arith, h.enou
 abbrev pub with_bit : (words : List ℕ) (at k : ℕ) → List ℕ
 with_bit words at k = set words at (bit_or (get_or words at 0) (1 * 2 ^ k % 2 ^ 64))
 
--- the words in which a bit of a row has been set
-module _ (words : List ℕ) (width row column : ℕ) (there : row * width + column / 64 < length words) (narrow : column / 64 < width) where
+module _ (words : List ℕ) (columns row column : ℕ) (there : row / 64 * columns + column < length words) (narrow : column < columns) where
+  abbrev place : ℕ
+  place = row / 64 * columns + column
+
   abbrev changed : List ℕ
-  changed = with_bit words (row * width + column / 64) (column % 64)
+  changed = with_bit words place (row % 64)
 
-  set-itself : bit_in changed width row column ≡ true
+  set-itself : bit_in changed columns row column ≡ true
   set-itself =
-      ap (λ w. bit_at w (column % 64) == 1) (get_or-set_same words (row * width + column / 64) (bit_or (get_or words (row * width + column / 64) 0) (1 * 2 ^ (column % 64) % 2 ^ 64)) 0 there)
-      ∙ ap (λ n. n == 1) (bit_at_set_same w64 (get_or words (row * width + column / 64) 0) (column % 64) (mod_below column 64 (omega arith)))
+      ap (λ w. bit_at w (row % 64) == 1) (get_or-set_same words place (bit_or (get_or words place 0) (1 * 2 ^ (row % 64) % 2 ^ 64)) 0 there)
+      ∙ ap (λ n. n == 1) (bit_at_set_same w64 (get_or words place 0) (row % 64) (mod_below row 64 (omega arith)))
 
-  other-word : (r c : ℕ) → r * width + c / 64 ≢ row * width + column / 64 → bit_in changed width r c ≡ bit_in words width r c
+  other-word : (r c : ℕ) → r / 64 * columns + c ≢ place → bit_in changed columns r c ≡ bit_in words columns r c
   other-word r c other =
-      ap (λ w. bit_at w (c % 64) == 1) (get_or-set_other words (row * width + column / 64) (r * width + c / 64) (bit_or (get_or words (row * width + column / 64) 0) (1 * 2 ^ (column % 64) % 2 ^ 64)) 0 other)
+      ap (λ w. bit_at w (r % 64) == 1) (get_or-set_other words place (r / 64 * columns + c) (bit_or (get_or words place 0) (1 * 2 ^ (row % 64) % 2 ^ 64)) 0 other)
 
-  same-word : (c : ℕ) → c / 64 ≡ column / 64 → c ≢ column → bit_in changed width row c ≡ bit_in words width row c
-  same-word c same other =
-      let at : row * width + c / 64 ≡ row * width + column / 64 = omega (arith, same) in
-      ap (λ i. bit_at (get_or changed i 0) (c % 64) == 1) at
-      ∙ ap (λ w. bit_at w (c % 64) == 1) (get_or-set_same words (row * width + column / 64) (bit_or (get_or words (row * width + column / 64) 0) (1 * 2 ^ (column % 64) % 2 ^ 64)) 0 there)
-      ∙ ap (λ n. n == 1) (bit_at_set_other w64 (get_or words (row * width + column / 64) 0) (column % 64) (mod_below column 64 (omega arith)) (c % 64) (λ e. other (omega (arith, e, same))))
-      ∙ ap (λ i. bit_at (get_or words i 0) (c % 64) == 1) (sym at)
+  same-word : (r : ℕ) → r / 64 ≡ row / 64 → r ≢ row → bit_in changed columns r column ≡ bit_in words columns r column
+  same-word r same other =
+      let at : r / 64 * columns + column ≡ place = ap (λ (q : ℕ). q * columns + column) same in
+      ap (λ i. bit_at (get_or changed i 0) (r % 64) == 1) at
+      ∙ ap (λ w. bit_at w (r % 64) == 1) (get_or-set_same words place (bit_or (get_or words place 0) (1 * 2 ^ (row % 64) % 2 ^ 64)) 0 there)
+      ∙ ap (λ n. n == 1) (bit_at_set_other w64 (get_or words place 0) (row % 64) (mod_below row 64 (omega arith)) (r % 64) (λ e. other (omega (arith, e, same))))
+      ∙ ap (λ i. bit_at (get_or words i 0) (r % 64) == 1) (sym at)
 
-  set-others : (c : ℕ) → c / 64 < width → c ≢ column → bit_in changed width row c ≡ bit_in words width row c
-  set-others c within other =
-      ⊎_elim (λ same. same-word c same other)
-      (λ apart. other-word row c (λ e. apart (omega (arith, e)))) (cases_eq (c / 64) (column / 64))
-
-  set-rows : (r c : ℕ) → c / 64 < width → r ≢ row → bit_in changed width r c ≡ bit_in words width r c
-  set-rows r c within other =
-      other-word r c (λ e. other (same_from_place r (c / 64) row (column / 64) width within narrow e).0)
-
-  set-line : (columns c : ℕ) → columns ≤ 64 * width → c < columns → column < columns → get_or (set (row_in words width columns row) column true) c false ≡ bit_in changed width row c
-  set-line columns c enough h k =
-      let long : length (row_in words width columns row) ≡ columns = length-map-range_with_len (bit_in words width row) 0 columns in
-      ⊎_elim (λ same.
-      subst (λ i. get_or (set (row_in words width columns row) column true) i false ≡ bit_in changed width row i) (sym same)
-      (get_or-set_same (row_in words width columns row) column true false (omega (arith, long, k)) ∙ sym set-itself))
+  set-column : (r : ℕ) → bit_in changed columns r column ≡ (bit_in words columns r column || ((column == column) && (r == row)))
+  set-column r =
+      ⊎_elim
+      (λ same. ap (λ (q : ℕ). bit_in changed columns q column) same ∙ set-itself ∙ or-set (bit_in words columns r column) (column == column) (r == row) (eq-eqb column column refl) (eq-eqb r row same))
       (λ other.
-      get_or-set_other (row_in words width columns row) column c true false other
-      ∙ get_or-map-range_with_len (bit_in words width row) 0 columns c c false h (omega arith)
-      ∙ sym (set-others c (div_below c 64 width (omega arith) (omega (arith, h, enough))) other)) (cases_eq c column)
+      ⊎_elim (λ same. same-word r same other) (λ apart. other-word r column (λ e. apart (same_from_place (r / 64) column (row / 64) column columns narrow narrow e).0)) (cases_eq (r / 64) (row / 64))
+      ∙ or-row (bit_in words columns r column) (column == column) (r == row) (ne_eqb r row other))
+      (cases_eq r row)
 
-pub bit-set : (t : BitTable) (words : List ℕ) (width columns rows : ℕ) (is : record { columns = columns; rows = rows_in words width columns rows } ≡ t)
-    (holds : HoldsRows words width columns rows) (row column : ℕ) → row < length t.rows → column < t.columns → (word : ℕ) → word ≡ get_or words (row * width + column / 64) 0 →
-    rows_in (set words (row * width + column / 64) (bit_or word (1 * 2 ^ (column % 64) % 2 ^ 64))) width columns rows ≡ set t.rows row (set (get_or t.rows row []) column true)
-bit-set t words width columns rows is holds row column h k word read =
-    let there = bit-within t words width columns rows is holds row column h k in
-    let narrow = index-within t words width columns rows is holds column k in
-    let few : column < columns = omega (arith, k, columns-are t words width columns rows is holds) in
-    let long : length (set (row_in words width columns row) column true) ≡ columns =
-    length-set (row_in words width columns row) column true ∙ length-map-range_with_len (bit_in words width row) 0 columns in
-    ap (λ w. rows_in (set words (row * width + column / 64) (bit_or w (1 * 2 ^ (column % 64) % 2 ^ 64))) width columns rows) read
-    ∙ grid-changed (bit_in words width) (bit_in (with_bit words (row * width + column / 64) (column % 64)) width) rows columns row (set (row_in words width columns row) column true) long
-    (λ r c in_rows in_columns other. set-rows words width row column there narrow r c (div_below c 64 width (omega arith) (omega (arith, in_columns, holds.enough))) other)
-    (λ c in_columns. set-line words width row column there narrow columns c holds.enough in_columns few)
-    ∙ ap (λ l. set l row (set (row_in words width columns row) column true)) (sym (rows-are t words width columns rows is holds))
-    ∙ ap (λ l. set t.rows row (set l column true)) (sym (row-is t words width columns rows is holds row h))
+  pub set-bits : (r c : ℕ) → c < columns → bit_in changed columns r c ≡ (bit_in words columns r c || ((c == column) && (r == row)))
+  set-bits r c within =
+      ⊎_elim
+      (λ same. ap (λ (k : ℕ). bit_in changed columns r k) same ∙ set-column r ∙ ap (λ (k : ℕ). bit_in words columns r k || ((k == column) && (r == row))) (sym same))
+      (λ other. other-word r c (λ e. other (same_from_place (r / 64) c (row / 64) column columns within narrow e).1) ∙ or-column (bit_in words columns r c) (c == column) (r == row) (ne_eqb c column other))
+      (cases_eq c column)
+
+-- ---- a column is joined
+
+either-is : (m n : ℕ) → m < 2 → n < 2 → (max m n == 1) ≡ ((m == 1) || (n == 1))
+either-is zero zero h k = refl
+either-is zero (suc zero) h k = refl
+either-is zero (suc (suc n)) h k = absurd (omega (arith, k))
+either-is (suc zero) zero h k = refl
+either-is (suc zero) (suc zero) h k = refl
+either-is (suc zero) (suc (suc n)) h k = absurd (omega (arith, k))
+either-is (suc (suc m)) n h k = absurd (omega (arith, h))
+
+either-bit : (x y i : ℕ) → (bit_at (bit_or x y) i == 1) ≡ ((bit_at x i == 1) || (bit_at y i == 1))
+either-bit x y i = ap (λ n. n == 1) (bit_at_or x y i) ∙ either-is (bit_at x i) (bit_at y i) (bit_at-lt x i) (bit_at-lt y i)
+
+-- a column is joined as far as its first words
+pub record IsJoined (columns column from index : ℕ) (old now : List ℕ) : Type 0 where
+  pub long : length now ≡ length old
+  pub bits : (r c : ℕ) → c < columns → bit_in now columns r c ≡ (bit_in old columns r c || ((c == column) && (nat_lt (r / 64) index && bit_in old columns r from)))
+
+none-lower : (b x y t : Bool) → t ≡ false → b ≡ (b || (x && (t && y)))
+none-lower b x y t none = or-row b x (t && y) (ap (λ (s : Bool). s && y) none)
+
+pub none-joined : (columns column from : ℕ) (old now : List ℕ) → now ≡ old → IsJoined columns column from 0 old now
+none-joined columns column from old now same = record {
+  long = ap length same;
+  bits = λ r c within.
+      ap (λ (l : List ℕ). bit_in l columns r c) same
+      ∙ none-lower (bit_in old columns r c) (c == column) (bit_in old columns r from) (nat_lt (r / 64) 0) (le-ltb (r / 64) 0 (omega arith));
+}
+
+module _ (columns column from index : ℕ) (old now : List ℕ) (x y : ℕ) (before : IsJoined columns column from index old now) (narrow : column < columns) (known : from < columns)
+    (there : index * columns + column < length now) (first : x ≡ get_or now (index * columns + column) 0) (second : y ≡ get_or now (index * columns + from) 0) where
+  abbrev spot : ℕ
+  spot = index * columns + column
+
+  abbrev joined : List ℕ
+  joined = set now spot (bit_or x y)
+
+  unjoined : (r c : ℕ) → r / 64 * columns + c ≢ spot → bit_in joined columns r c ≡ bit_in now columns r c
+  unjoined r c other = ap (λ w. bit_at w (r % 64) == 1) (get_or-set_other now spot (r / 64 * columns + c) (bit_or x y) 0 other)
+
+  still : (r c : ℕ) → c < columns → r / 64 ≡ index → bit_in now columns r c ≡ bit_in old columns r c
+  still r c within same =
+      before.bits r c within
+      ∙ sym (none-lower (bit_in old columns r c) (c == column) (bit_in old columns r from) (nat_lt (r / 64) index) (le-ltb (r / 64) index (omega (arith, same))))
+
+  at-word : (r c : ℕ) → r / 64 ≡ index → (bit_at (get_or now (index * columns + c) 0) (r % 64) == 1) ≡ bit_in now columns r c
+  at-word r c same = ap (λ (q : ℕ). bit_at (get_or now (q * columns + c) 0) (r % 64) == 1) (sym same)
+
+  here : (r : ℕ) → r / 64 ≡ index → bit_in joined columns r column ≡ (bit_in old columns r column || ((column == column) && (nat_lt (r / 64) (index + 1) && bit_in old columns r from)))
+  here r same =
+      ap (λ (q : ℕ). bit_at (get_or joined (q * columns + column) 0) (r % 64) == 1) same
+      ∙ ap (λ w. bit_at w (r % 64) == 1) (get_or-set_same now spot (bit_or x y) 0 there)
+      ∙ either-bit x y (r % 64)
+      ∙ ap (λ (w : ℕ). (bit_at w (r % 64) == 1) || (bit_at y (r % 64) == 1)) first
+      ∙ ap (λ (w : ℕ). (bit_at (get_or now (index * columns + column) 0) (r % 64) == 1) || (bit_at w (r % 64) == 1)) second
+      ∙ ap (λ (b : Bool). b || (bit_at (get_or now (index * columns + from) 0) (r % 64) == 1)) (at-word r column same ∙ still r column narrow same)
+      ∙ ap (λ (b : Bool). bit_in old columns r column || b) (at-word r from same ∙ still r from known same)
+      ∙ sym (ap (λ (t : Bool). bit_in old columns r column || (t && (nat_lt (r / 64) (index + 1) && bit_in old columns r from))) (eq-eqb column column refl)
+      ∙ ap (λ (t : Bool). bit_in old columns r column || (t && bit_in old columns r from)) (lt-ltb (r / 64) (index + 1) (omega (arith, same))))
+
+  later : (r : ℕ) → r / 64 ≢ index → nat_lt (r / 64) index ≡ nat_lt (r / 64) (index + 1)
+  later r other =
+      ⊎_elim (λ less. lt-ltb (r / 64) index less ∙ sym (lt-ltb (r / 64) (index + 1) (omega (arith, less))))
+      (λ past. le-ltb (r / 64) index past ∙ sym (le-ltb (r / 64) (index + 1) (omega (arith, past, other)))) (cases_lt (r / 64) index)
+
+  there-bits : (r c : ℕ) → c < columns → r / 64 ≢ index → bit_in joined columns r c ≡ (bit_in old columns r c || ((c == column) && (nat_lt (r / 64) (index + 1) && bit_in old columns r from)))
+  there-bits r c within other =
+      unjoined r c (λ e. other (same_from_place (r / 64) c index column columns within narrow e).0)
+      ∙ before.bits r c within
+      ∙ ap (λ (t : Bool). bit_in old columns r c || ((c == column) && (t && bit_in old columns r from))) (later r other)
+
+  beside : (r c : ℕ) → c < columns → c ≢ column → bit_in joined columns r c ≡ (bit_in old columns r c || ((c == column) && (nat_lt (r / 64) (index + 1) && bit_in old columns r from)))
+  beside r c within other =
+      unjoined r c (λ e. other (same_from_place (r / 64) c index column columns within narrow e).1)
+      ∙ before.bits r c within
+      ∙ sym (or-column (bit_in old columns r c) (c == column) (nat_lt (r / 64) index && bit_in old columns r from) (ne_eqb c column other))
+      ∙ or-column (bit_in old columns r c) (c == column) (nat_lt (r / 64) (index + 1) && bit_in old columns r from) (ne_eqb c column other)
+
+  pub word-joined : IsJoined columns column from (index + 1) old joined
+  word-joined = record {
+    long = length-set now spot (bit_or x y) ∙ before.long;
+    bits = λ r c within.
+        ⊎_elim
+        (λ same.
+        ⊎_elim (λ row. ap (λ (k : ℕ). bit_in joined columns r k) same ∙ here r row ∙ ap (λ (k : ℕ). bit_in old columns r k || ((k == column) && (nat_lt (r / 64) (index + 1) && bit_in old columns r from))) (sym same))
+        (λ other. there-bits r c within other) (cases_eq (r / 64) index))
+        (λ other. beside r c within other) (cases_eq c column);
+  }
+
+-- all words are joined
+pub column-joined : (old new : BitRows) (column from index : ℕ) → HoldsRows old → old.height ≤ index → IsJoined old.columns column from index old.words.items new.words.items →
+    new.rows ≡ old.rows → new.columns ≡ old.columns → new.height ≡ old.height → Marks column (λ r. bit_of old r from) old new
+column-joined old new column from index holds past joined rows columns height = record {
+  bits = λ row c in_rows in_columns.
+      ap (λ (n : ℕ). bit_in new.words.items n row c) columns
+      ∙ joined.bits row c in_columns
+      ∙ ap (λ (t : Bool). bit_in old.words.items old.columns row c || ((c == column) && (t && bit_in old.words.items old.columns row from))) (lt-ltb (row / 64) index (omega (arith, index-within old holds row in_rows, past)));
+  rows = rows;
+  columns = columns;
+  holds = λ h. record {
+    all_words = joined.long ∙ h.all_words ∙ ap (λ (n : ℕ). n * old.columns) (sym height) ∙ ap (λ (n : ℕ). new.height * n) (sym columns);
+    enough = omega (arith, h.enough, rows, height);
+  };
+}
+
+pub bit-set : (old new : BitRows) (row column word : ℕ) → HoldsRows old → row < old.rows → column < old.columns → word ≡ get_or old.words.items (row / 64 * old.columns + column) 0 →
+    new.words.items ≡ set old.words.items (row / 64 * old.columns + column) (bit_or word (1 * 2 ^ (row % 64) % 2 ^ 64)) → new.rows ≡ old.rows → new.columns ≡ old.columns → new.height ≡ old.height →
+    Marks column (λ r. r == row) old new
+bit-set old new row column word holds in_rows in_columns read made rows columns height =
+    let there = bit-within old holds row column in_rows in_columns in
+    let are : new.words.items ≡ with_bit old.words.items (row / 64 * old.columns + column) (row % 64) =
+    made ∙ ap (λ (w : ℕ). set old.words.items (row / 64 * old.columns + column) (bit_or w (1 * 2 ^ (row % 64) % 2 ^ 64))) read in
+    record {
+      bits = λ r c h k.
+          ap (λ (n : ℕ). bit_in new.words.items n r c) columns
+          ∙ ap (λ (l : List ℕ). bit_in l old.columns r c) are
+          ∙ set-bits old.words.items old.columns row column there in_columns r c k;
+      rows = rows;
+      columns = columns;
+      holds = λ h. record {
+        all_words = ap length made ∙ length-set old.words.items (row / 64 * old.columns + column) (bit_or word (1 * 2 ^ (row % 64) % 2 ^ 64)) ∙ h.all_words ∙ ap (λ (n : ℕ). n * old.columns) (sym height) ∙ ap (λ (n : ℕ). new.height * n) (sym columns);
+        enough = omega (arith, h.enough, rows, height);
+      };
+    }

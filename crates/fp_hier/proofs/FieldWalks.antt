@@ -1,26 +1,15 @@
 -- Walks over names that look for a field, and the lists of names that they go over.
-use Rattle.std.proofs.Common.{◌≡◌, ℕ, suc, ◌+◌, ◌<◌, List, ◌++◌, drop, get_or, length, add-one, sym, ap, ◌∙◌, arith, drop-cons}
-use Rattle.std.specs.Prelude.{Option, Some, None}
-use Rattle.std.specs.Option.{option_to_list}
-use Rattle.std.proofs.lemmas.List.FromFn.{get_or-map-range_with_len, length-map-range_with_len}
+use Rattle.std.proofs.Common.{◌≡◌, ℕ, suc, ◌+◌, ◌<◌, List, ◌++◌, drop, get_or, length, add-one, sym, ap, ◌∙◌, arith, drop-cons, [], inl, inr}
+use Rattle.std.specs.Prelude.{Option, Some, None, option_and_then, slice_get}
+use Rattle.std.specs.Option.{option_map_or, option_to_list}
+use Rattle.std.proofs.lemmas.Option.{slice_get_cases}
 use Rattle.fp_model.specs.declared.class.Class.{Class}
 use Rattle.fp_model.specs.ClassSet.{class_named, fields_of}
-use Rattle.fp_facts.specs.Hierarchy.{classes_among, superinterfaces_at}
-use Rattle.fp_facts.specs.Resolution.{class_and_superinterfaces, declared_field, first_given}
-use Rattle.fp_hier.specs.Tables.{all_superinterfaces}
+use Rattle.fp_facts.specs.Hierarchy.{class_and_above, classes_among}
+use Rattle.fp_facts.specs.Resolution.{class_and_superinterfaces, declared_field, first_given, resolve_field, resolved_field}
+use Rattle.fp_hier.specs.Lineages.{classes_up}
 use Rattle.fp_hier.proofs.FirstMembers.{field-known}
 use Rattle.fp_hier.proofs.GivenMembers.{give-found, give-known, give-on}
-
--- ---- the superinterfaces of a class
-
-pub lists-long : (classes : List Class) (lists : List (List ℕ)) (id : ℕ) → lists ≡ all_superinterfaces classes → id < length classes → id < length lists
-lists-long classes lists id is within =
-    omega (arith, within, ap length is ∙ length-map-range_with_len (superinterfaces_at classes) 0 (length classes))
-
-pub list-at : (classes : List Class) (lists : List (List ℕ)) (id : ℕ) (list : List ℕ) → lists ≡ all_superinterfaces classes → id < length classes → list ≡ get_or lists id list → list ≡ superinterfaces_at classes id
-list-at classes lists id list is within at =
-    at ∙ ap (λ (all : List (List ℕ)). get_or all id list) is
-    ∙ get_or-map-range_with_len (superinterfaces_at classes) 0 (length classes) id id list within (omega arith)
 
 -- ---- one name of a walk
 
@@ -53,3 +42,16 @@ name-found give classes names i id m whole within named found known =
 pub own-known : (classes : List Class) (name descr id m : ℕ) → first_given (declared_field classes name descr) (class_and_superinterfaces classes id) ≡ Some m → m < length (fields_of classes)
 own-known classes name descr id m is =
     give-known (declared_field classes name descr) (length (fields_of classes)) m (λ class. field-known classes name descr class m) (class_and_superinterfaces classes id) is
+
+-- ---- the field that a reference means
+
+pub field-resolved : (classes : List Class) (class id name descr : ℕ) → class_named classes class ≡ Some id → id < length classes →
+    first_given (λ other. first_given (declared_field classes name descr) (class_and_superinterfaces classes other)) (classes_up classes id) ≡ resolve_field classes class name descr
+field-resolved classes class id name descr named within = elim (slice_get_cases classes id).1 [
+  | inl found ↦
+      let give : ℕ → Option ℕ = λ other. first_given (declared_field classes name descr) (class_and_superinterfaces classes other) in
+      ap (λ (o : Option Class). first_given give (option_map_or (class_and_above classes) o [])) found.2
+      ∙ sym (ap (λ (o : Option ℕ). option_and_then (λ (c : Class). resolved_field classes c name descr) (option_and_then (slice_get classes) o)) named
+      ∙ ap (option_and_then (λ (c : Class). resolved_field classes c name descr)) found.2)
+  | inr none ↦ absurd (omega (arith, within, none.0))
+]

@@ -13,7 +13,7 @@ use Rattle.fp_facts.specs.Resolution.{declared_field, declared_method}
 use Rattle.fp_model.specs.declared.class.Field.{Field}
 use Rattle.fp_model.specs.declared.class.Method.{Method}
 use Rattle.fp_hier.specs.Members.{is_key, field_of_class, method_of_class}
-use Rattle.fp_hier.specs.declared.declared.Signature.{Signature}
+use Rattle.fp_hier.specs.declared.declared.Member.{Member}
 
 -- ---- the first that passes
 
@@ -68,11 +68,11 @@ position-more p first i xs d x within is =
 
 -- ---- the members of a class
 
-abbrev pub first_of_methods : (class first : ℕ) → List Method → Signature → Option ℕ
+abbrev pub first_of_methods : (class first : ℕ) → List Method → Member → Option ℕ
 first_of_methods class first methods key =
     if key.class == class then option_map (λ i. first + i) (position (λ m. (m.name == key.name) && (m.descr == key.descr)) methods) else None
 
-abbrev pub first_of_fields : (class first : ℕ) → List Field → Signature → Option ℕ
+abbrev pub first_of_fields : (class first : ℕ) → List Field → Member → Option ℕ
 first_of_fields class first fields key =
     if key.class == class then option_map (λ i. first + i) (position (λ f. (f.name == key.name) && (f.descr == key.descr)) fields) else None
 
@@ -86,7 +86,7 @@ put true pair same before so_far more id at e is h = or-assoc before so_far _ �
 put false pair same None so_far more id at e is h = refl
 put false pair same (Some x) so_far more id at e is h = refl
 
-pub methods-more : (class first i id : ℕ) (ms : List Method) (m : Method) (key : Signature) (before was is : Option ℕ) → i < length ms → m ≡ get_or ms i m → id ≡ first + i →
+pub methods-more : (class first i id : ℕ) (ms : List Method) (m : Method) (key : Member) (before was is : Option ℕ) → i < length ms → m ≡ get_or ms i m → id ≡ first + i →
     was ≡ option_or before (first_of_methods class first (take i ms) key) →
     is ≡ option_or was (cond (is_key key (record { class = class; name = m.name; descr = m.descr })) (Some id) None) →
     is ≡ option_or before (first_of_methods class first (take (i + 1) ms) key)
@@ -95,7 +95,7 @@ methods-more class first i id ms m key before was is within here at so_far added
     ∙ put (key.class == class) _ _ before _ _ id (first + i) (same_pair key.name m.name key.descr m.descr) at
     (position-more (λ (x : Method). (x.name == key.name) && (x.descr == key.descr)) first i ms m m within here)
 
-pub fields-more : (class first i id : ℕ) (fs : List Field) (d : Field) (key : Signature) (before was is : Option ℕ) → i < length fs → id ≡ first + i →
+pub fields-more : (class first i id : ℕ) (fs : List Field) (d : Field) (key : Member) (before was is : Option ℕ) → i < length fs → id ≡ first + i →
     was ≡ option_or before (first_of_fields class first (take i fs) key) →
     is ≡ option_or was (cond (is_key key (record { class = class; name = (get_or fs i d).name; descr = (get_or fs i d).descr })) (Some id) None) →
     is ≡ option_or before (first_of_fields class first (take (i + 1) fs) key)
@@ -167,13 +167,13 @@ member-fits f classes class i c at within =
     let is : length (f (get_or classes class c)) ≡ length (f c) = ap (λ d. length (f d)) (get_or_from_slice_get classes class c c at) in
     omega arith
 
-pub methods-whole : (classes : List Class) (class : ℕ) (c : Class) (members : List Method) (i : ℕ) (key : Signature) (before : Option ℕ) → slice_get classes class ≡ Some c → members ≡ c.methods → length members ≤ i →
+pub methods-whole : (classes : List Class) (class : ℕ) (c : Class) (members : List Method) (i : ℕ) (key : Member) (before : Option ℕ) → slice_get classes class ≡ Some c → members ≡ c.methods → length members ≤ i →
     option_or before (first_of_methods class (first_method_of classes class) (take i members) key) ≡ option_or before (method_of_class classes class key)
 methods-whole classes class c members i key before at is whole =
     let all : take i members ≡ c.methods = take_all i members whole ∙ is in
     rw (all, at) refl
 
-pub fields-whole : (classes : List Class) (class : ℕ) (c : Class) (members : List Field) (i : ℕ) (key : Signature) (before : Option ℕ) → slice_get classes class ≡ Some c → members ≡ c.fields → length members ≤ i →
+pub fields-whole : (classes : List Class) (class : ℕ) (c : Class) (members : List Field) (i : ℕ) (key : Member) (before : Option ℕ) → slice_get classes class ≡ Some c → members ≡ c.fields → length members ≤ i →
     option_or before (first_of_fields class (first_field_of classes class) (take i members) key) ≡ option_or before (field_of_class classes class key)
 fields-whole classes class c members i key before at is whole =
     let all : take i members ≡ c.fields = take_all i members whole ∙ is in

@@ -1,9 +1,8 @@
 -- The methods of the interfaces above a class, class by class.
-use Rattle.std.proofs.Common.{◌≡◌, ◌<◌, ℕ, Bool, false, List, [], ◌++◌, length, filter, flat_map, get_or, Option, Some, sym, ap, ◌∙◌, arith}
+use Rattle.std.proofs.Common.{◌≡◌, ℕ, Bool, false, List, [], ◌++◌, filter, flat_map, Option, Some, sym, ap, ◌∙◌}
 use Rattle.std.specs.Prelude.{slice_get}
 use Rattle.std.specs.Option.{option_map_or, option_or, option_to_list}
 use Rattle.std.proofs.lemmas.Grind.{flat_map-append}
-use Rattle.std.proofs.lemmas.List.FromFn.{get_or-map-range_with_len, length-map-range_with_len}
 use Rattle.std.proofs.lemmas.Option.{same_Some}
 use Rattle.fp_model.specs.declared.class.Class.{Class}
 use Rattle.fp_model.specs.declared.class.Method.{Method}
@@ -12,17 +11,7 @@ use Rattle.fp_facts.specs.Hierarchy.{ancestors, class_and_above, classes_among, 
 use Rattle.fp_facts.specs.Resolution.{declared_method, first_given, first_of, interfaces_above, method_at, methods_among}
 use Rattle.fp_hier.specs.Given.{given_by, given_by_interface}
 use Rattle.fp_hier.specs.Lineages.{classes_up}
-use Rattle.fp_hier.specs.Tables.{all_superinterfaces}
 use Rattle.fp_hier.proofs.FirstGiven.{all-chosen, all-passing, each-of_each, first-append, first-of_all, first-of_each}
-
--- the lists of the table, and the one at a place
-module _ (classes : List Class) (lists : List (List ℕ)) (is : lists ≡ all_superinterfaces classes) (id : ℕ) (within : id < length classes) where
-  pub is-listed : id < length lists
-  is-listed = omega (arith, ap length is, length-map-range_with_len (superinterfaces_at classes) 0 (length classes))
-
-  pub list-found : (names found : List ℕ) → names ≡ found → found ≡ get_or lists id found → names ≡ superinterfaces_at classes id
-  list-found names found same at =
-      same ∙ at ∙ ap (λ (l : List (List ℕ)). get_or l id found) is ∙ get_or-map-range_with_len (superinterfaces_at classes) 0 (length classes) id id found within (omega arith)
 
 module _ (classes : List Class) (test : Method → Bool) (name descr : ℕ) where
   abbrev pub of : ℕ → Option ℕ

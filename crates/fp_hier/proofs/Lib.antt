@@ -2,15 +2,15 @@ mod AscendingLists
 mod BitPlaces
 mod CallerClasses
 mod DeclaringClasses
+mod EndingChains
 mod FieldWalks
 mod FirstGiven
 mod FirstMembers
 mod FirstNamed
 mod GivenMembers
+mod InheritedNames
 mod InterfaceMethods
-mod JoinedBits
 mod Lineages
-mod ListedBits
 mod MarkedRows
 mod MemberReferences
 mod NoCalls
@@ -19,7 +19,7 @@ mod ReceiverNames
 mod ReceiverRows
 mod SearchedPlaces
 mod SelectedTargets
-mod SmallSets
+mod SharedNames
 mod SuperclassLists
 mod SuperclassNames
 mod TargetBits

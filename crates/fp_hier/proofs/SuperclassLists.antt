@@ -5,7 +5,7 @@ use Rattle.std.proofs.lemmas.List.{append_assoc, append-nil}
 use Rattle.fp_model.specs.declared.class.Class.{Class}
 use Rattle.fp_facts.specs.Hierarchy.{class_of_name, superclasses_from}
 
-none-above : (classes : List Class) (most : ℕ) → superclasses_from classes most None ≡ []
+pub none-above : (classes : List Class) (most : ℕ) → superclasses_from classes most None ≡ []
 unfolding superclasses_from
 none-above classes zero = refl
 none-above classes (suc most) = refl
@@ -14,7 +14,7 @@ none-looked : (classes : List Class) (above : Option ℕ) → superclasses_from 
 unfolding superclasses_from
 none-looked classes above = refl
 
-first-above : (classes : List Class) (most parent : ℕ) → superclasses_from classes (suc most) (Some parent) ≡ parent ∷ superclasses_from classes most (option_and_then (λ c. c.parent) (class_of_name classes parent))
+pub first-above : (classes : List Class) (most parent : ℕ) → superclasses_from classes (suc most) (Some parent) ≡ parent ∷ superclasses_from classes most (option_and_then (λ c. c.parent) (class_of_name classes parent))
 unfolding superclasses_from
 first-above classes most parent = refl
 

@@ -1,40 +1,24 @@
 -- Rows of bits, and how words hold them.
-use Rattle.std.specs.Prelude.{◌≡◌, ◌<◌, ◌≤◌, ◌+◌, ◌*◌, ◌/◌, ◌%◌, ◌==◌, ◌||◌, ℕ, Bool, List, [], ◌∷◌, length, map, bit_or, slice_index, slice_set}
-use Rattle.std.proofs.Common.{zero, suc}
+use Rattle.std.specs.Prelude.{◌≡◌, ◌<◌, ◌≤◌, ◌+◌, ◌*◌, ◌/◌, ◌%◌, ◌==◌, ◌&&◌, ◌||◌, ℕ, Bool, List, length, slice_index}
 use Rattle.std.specs.Int.{bit_at}
-use Rattle.std.specs.List.{range_with_len}
+use Rattle.fp_hier.specs.declared.bit_rows.BitRows.{BitRows}
 
--- rows of as many bits each
-pub record BitTable : Type 0 where
-  pub columns : ℕ
-  pub rows : List (List Bool)
+-- whether the bit of a row and a column is set in columns of words: 64 rows to a word, the lowest bit first
+abbrev pub bit_in : (words : List ℕ) (columns row column : ℕ) → Bool
+bit_in words columns row column = bit_at (slice_index words (row / 64 * columns + column)) (row % 64) == 1
 
--- what is set in one of two rows, place by place
-abbrev pub joined : List Bool → List Bool → List Bool
-joined [] ys = []
-joined (x ∷ xs) [] = x ∷ xs
-joined (x ∷ xs) (y ∷ ys) = (x || y) ∷ joined xs ys
+-- the bit of a row and a column
+abbrev pub bit_of : BitRows → (row column : ℕ) → Bool
+bit_of t row column = bit_in t.words.items t.columns row column
 
--- whether the bit of a column is set in a row of so many words: 64 columns to a word, the lowest bit first
-abbrev pub bit_in : (words : List ℕ) (width row column : ℕ) → Bool
-bit_in words width row column = bit_at (slice_index words (row * width + column / 64)) (column % 64) == 1
+-- there are the words of all columns, each with room for all rows
+pub record HoldsRows (t : BitRows) : Type 0 where
+  pub all_words : length t.words.items ≡ t.height * t.columns
+  pub enough : t.rows ≤ 64 * t.height
 
--- a row as a list
-abbrev pub row_in : (words : List ℕ) (width columns row : ℕ) → List Bool
-row_in words width columns row = map (bit_in words width row) (range_with_len 0 columns)
-
--- all rows
-abbrev pub rows_in : (words : List ℕ) (width columns rows : ℕ) → List (List Bool)
-rows_in words width columns rows = map (row_in words width columns) (range_with_len 0 rows)
-
--- there are the words of so many rows, each with room for so many columns and for fewer than 64 more
-pub record HoldsRows (words : List ℕ) (width columns rows : ℕ) : Type 0 where
-  pub all_words : length words ≡ rows * width
-  pub enough : columns ≤ 64 * width
-  pub no_more : 64 * width < columns + 64
-
--- so many words of `more`, from the place `from` on, joined to those of `old` from the place `at` on
-abbrev pub joined_words : (old more : List ℕ) (at from count : ℕ) → List ℕ
-joined_words old more at from zero = old
-joined_words old more at from (suc n) =
-    slice_set (joined_words old more at from n) (at + n) (bit_or (slice_index old (at + n)) (slice_index more (from + n)))
+-- the bits of a column are set in those rows besides, and no others
+pub record Marks (class : ℕ) (in_row : ℕ → Bool) (old new : BitRows) : Type 0 where
+  pub bits : (row column : ℕ) → row < old.rows → column < old.columns → bit_of new row column ≡ (bit_of old row column || ((column == class) && in_row row))
+  pub rows : new.rows ≡ old.rows
+  pub columns : new.columns ≡ old.columns
+  pub holds : HoldsRows old → HoldsRows new

@@ -21,6 +21,6 @@ given_by_interface classes test name descr class =
 abbrev pub is_instance : Method → Bool
 is_instance m = not (is_static m.flags)
 
--- neither private nor static, and with code where one with code is looked for
-abbrev pub is_wanted : (with_code : Bool) → Method → Bool
-is_wanted with_code m = if with_code then is_open m && has_code m else is_open m
+-- neither private nor static, and with code
+abbrev pub is_open_with_code : Method → Bool
+is_open_with_code m = is_open m && has_code m

@@ -3,10 +3,13 @@ pub mod Bits
 pub mod Given
 pub mod Hierarchies
 pub mod Lineages
+pub mod Lists
 pub mod Marks
 pub mod Members
+pub mod Parts
 pub mod Reach
 pub mod Receivers
+pub mod Sought
 pub mod Tables
 pub mod Targets
 pub mod Walks

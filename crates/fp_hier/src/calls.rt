@@ -12,7 +12,9 @@ ghost use Rattle.fp_hier.specs.Targets.{AreTargets};
 use crate::flags::is_private;
 use crate::hier::Hier;
 use crate::lineage::{superclass, superclass_name};
-use crate::selection::fixed_target;
+use crate::resolution::resolve_method;
+use crate::selection::{Receiver, fixed_target, selected};
+use crate::signature::Signature;
 use crate::targets::Targets;
 use crate::texts::{is_object, name_text};
 use fp_model::{Class, ClassId, ClassSet, Instr};
@@ -30,21 +32,20 @@ pub(crate) struct CallReach {
     pub(crate) by_class: Vec<(ClassId, Targets)>,
 }
 
-/// A reference to a method, by the numbers of the class's name, of the method's and of its descriptor.
+/// A reference to a method, by the number of its class's name, and its signature.
 #[derive(Clone, Copy)]
 struct Reference {
     class: u32,
-    name: u32,
-    descr: u32,
+    signature: Signature,
 }
 
 impl Reference {
     fn new(class: u32, name: u32, descr: u32) -> Reference
         ensures class { result.class ≡ class }
-        ensures name { result.name ≡ name }
-        ensures descr { result.descr ≡ descr }
+        ensures signature { result.signature ≡ record { name = name; descr = descr } }
     {
-        Reference { class, name, descr }
+        let signature = Signature { name, descr };
+        Reference { class, signature }
     }
 }
 
@@ -67,7 +68,7 @@ pub(crate) fn reach(
             ..
         } => {
             let resolved = hier.resolve_method(set, *class, *name, *descr);
-            Ok(always(alloc, fixed_target(alloc, set, resolved, true)?))
+            Ok(always(alloc, fixed_target(alloc, set, resolved, Receiver::Class)?))
         }
         Instr::InvokeSpecial {
             class,
@@ -114,7 +115,7 @@ fn special(
     reference: Reference,
 ) -> Result<Targets, AllocError>
     requires { IsHierOf set.now hier.now }
-    ensures { IfOk result (AreTargets (length (methods_of set.now.classes)) (special_reached set.now caller.now reference.class reference.name reference.descr)) }
+    ensures { IfOk result (AreTargets (length (methods_of set.now.classes)) (special_reached set.now caller.now reference.class reference.signature.name reference.signature.descr)) }
 {
     if is_empty_constructor(set, reference) {
         return Ok(Targets::none(alloc, false));
@@ -122,26 +123,26 @@ fn special(
     if is_super_call(set, caller, reference) {
         return from_superclass(alloc, hier, set, caller, reference);
     }
-    let resolved = hier.resolve_method(set, reference.class, reference.name, reference.descr);
-    fixed_target(alloc, set, resolved, false)
+    let resolved = resolve_method(hier, set, reference.class, reference.signature);
+    fixed_target(alloc, set, resolved, Receiver::Object)
 }
 
 // Whether it is the constructor of `java/lang/Object`, which is outside the set.
 fn is_empty_constructor(set: &ClassSet, reference: Reference) -> bool
-    ensures { result ≡ selection.is_empty_constructor set.now reference.class reference.name reference.descr }
+    ensures { result ≡ selection.is_empty_constructor set.now reference.class reference.signature.name reference.signature.descr }
 {
     let names = set.names();
     set.find_class(reference.class).is_none()
         && is_object(names, reference.class)
-        && name_text(names, reference.name) == CONSTRUCTOR
-        && name_text(names, reference.descr) == NO_PARAMETERS
+        && name_text(names, reference.signature.name) == CONSTRUCTOR
+        && name_text(names, reference.signature.descr) == NO_PARAMETERS
 }
 
 // Whether a superclass's method is called.
 fn is_super_call(set: &ClassSet, caller: &Class, reference: Reference) -> bool
-    ensures { result ≡ selection.is_super_call set.now caller.now reference.class reference.name }
+    ensures { result ≡ selection.is_super_call set.now caller.now reference.class reference.signature.name }
 {
-    name_text(set.names(), reference.name) != CONSTRUCTOR
+    name_text(set.names(), reference.signature.name) != CONSTRUCTOR
         && is_superclass_name(set, caller, reference.class)
 }
 
@@ -173,10 +174,10 @@ fn from_superclass(
     reference: Reference,
 ) -> Result<Targets, AllocError>
     requires { IsHierOf set.now hier.now }
-    ensures { IfOk result (AreTargets (length (methods_of set.now.classes)) (selected_above set.now caller.now reference.name reference.descr)) }
+    ensures { IfOk result (AreTargets (length (methods_of set.now.classes)) (selected_above set.now caller.now reference.signature.name reference.signature.descr)) }
 {
     match superclass(set, caller) {
-        Some(class) => hier.selected(alloc, set, class, reference.name, reference.descr),
+        Some(class) => selected(alloc, hier, set, class, reference.signature),
         None => Ok(Targets::none(alloc, true)),
     }
 }
@@ -189,11 +190,11 @@ fn by_receiver(
     reference: Reference,
 ) -> Result<CallReach, AllocError>
     requires { IsHierOf set.now hier.now }
-    ensures { IfOk result (IsReach (length (methods_of set.now.classes)) (virtual_candidates set.now reference.class reference.name reference.descr)) }
+    ensures { IfOk result (IsReach (length (methods_of set.now.classes)) (virtual_candidates set.now reference.class reference.signature.name reference.signature.descr)) }
 {
-    let resolved = hier.resolve_method(set, reference.class, reference.name, reference.descr);
+    let resolved = resolve_method(hier, set, reference.class, reference.signature);
     if is_private_method(set, resolved) {
-        return Ok(always(alloc, fixed_target(alloc, set, resolved, false)?));
+        return Ok(always(alloc, fixed_target(alloc, set, resolved, Receiver::Object)?));
     }
     by_each_class(alloc, hier, set, reference)
 }
@@ -217,12 +218,12 @@ fn by_each_class(
     reference: Reference,
 ) -> Result<CallReach, AllocError>
     requires { IsHierOf set.now hier.now }
-    ensures { IfOk result (IsReach (length (methods_of set.now.classes)) (dispatched set.now reference.class reference.name reference.descr)) }
+    ensures { IfOk result (IsReach (length (methods_of set.now.classes)) (dispatched set.now reference.class reference.signature.name reference.signature.descr)) }
 {
     let classes = hier.receivers(alloc, set, reference.class)?;
     let mut by_class = Vec::with_capacity(alloc, classes.len())?;
     for class in &classes {
-        let selected = hier.selected(alloc, set, *class, reference.name, reference.descr)?;
+        let selected = selected(alloc, hier, set, *class, reference.signature)?;
         by_class.push((*class, selected))?;
     }
     let outside = set.find_class(reference.class).is_none();

@@ -6,13 +6,14 @@ ghost use Rattle.fp_facts.specs.Resolution.{declared_field, declared_method};
 ghost use Rattle.fp_model.specs.ClassSet.{SetView};
 ghost use Rattle.fp_hier.specs.Members.{IsDeclaredOf, TellsFields, TellsMethods, field_of_class, is_key, method_of_class};
 
+use crate::signature::Signature;
 use fp_model::{ClassId, ClassSet, FieldId, MethodId};
 use indexmap::IndexMap;
 use std::alloc::{AllocError, Global};
 
 /// What a member is looked up by.
 #[derive(Clone, Copy, Debug, PartialEq, Eq, Hash)]
-struct Signature {
+struct Member {
     class: ClassId,
     name: u32,
     descr: u32,
@@ -21,8 +22,8 @@ struct Signature {
 /// The first method and the first field of each class, name and descriptor.
 #[derive(Drop)]
 pub(crate) struct Declared {
-    methods: IndexMap<Signature, MethodId>,
-    fields: IndexMap<Signature, FieldId>,
+    methods: IndexMap<Member, MethodId>,
+    fields: IndexMap<Member, FieldId>,
 }
 
 impl Declared {
@@ -36,29 +37,27 @@ impl Declared {
     }
 
     /// The first method of a name and a descriptor that a class declares. Takes no memory.
-    pub(crate) fn method(&self, class: ClassId, name: u32, descr: u32) -> Option<MethodId>
-        ensures { (set : SetView) → IsDeclaredOf set self.now → result ≡ declared_method set.classes name descr class }
+    pub(crate) fn method(&self, class: ClassId, signature: Signature) -> Option<MethodId>
+        ensures { (set : SetView) → IsDeclaredOf set self.now → result ≡ declared_method set.classes signature.name signature.descr class }
     {
-        let key = Signature { class, name, descr };
+        let Signature { name, descr } = signature;
+        let key = Member { class, name, descr };
         self.methods.get(&key).copied()
     }
 
     /// The first field of a name and a descriptor that a class declares. Takes no memory.
-    pub(crate) fn field(&self, class: ClassId, name: u32, descr: u32) -> Option<FieldId>
-        ensures { (set : SetView) → IsDeclaredOf set self.now → result ≡ declared_field set.classes name descr class }
+    pub(crate) fn field(&self, class: ClassId, signature: Signature) -> Option<FieldId>
+        ensures { (set : SetView) → IsDeclaredOf set self.now → result ≡ declared_field set.classes signature.name signature.descr class }
     {
-        let key = Signature { class, name, descr };
+        let Signature { name, descr } = signature;
+        let key = Member { class, name, descr };
         self.fields.get(&key).copied()
     }
 }
 
 // Keeps the number of a member, unless there is one of its key.
-fn keep_first(
-    table: &mut IndexMap<Signature, u32>,
-    key: Signature,
-    id: u32,
-) -> Result<(), AllocError>
-    ensures { OnOk result ((k : Signature) → lookup (is_key k) table.new.entries
+fn keep_first(table: &mut IndexMap<Member, u32>, key: Member, id: u32) -> Result<(), AllocError>
+    ensures { OnOk result ((k : Member) → lookup (is_key k) table.new.entries
         ≡ option_or (lookup (is_key k) table.old.entries) (if is_key k key then Some id else None)) }
 {
     if table.get(&key).is_none() {
@@ -69,17 +68,17 @@ fn keep_first(
 
 // Adds the methods of a class.
 fn add_methods(
-    table: &mut IndexMap<Signature, MethodId>,
+    table: &mut IndexMap<Member, MethodId>,
     set: &ClassSet,
     class: ClassId,
 ) -> Result<(), AllocError>
     requires { class < length set.now.classes }
-    ensures { OnOk result ((k : Signature) → lookup (is_key k) table.new.entries
+    ensures { OnOk result ((k : Member) → lookup (is_key k) table.new.entries
         ≡ option_or (lookup (is_key k) table.old.entries) (method_of_class set.now.classes class k)) }
 {
     let mut id = set.first_method(class);
     for method in set.class(class).methods.as_slice() {
-        let key = Signature {
+        let key = Member {
             class,
             name: method.name,
             descr: method.descr,
@@ -92,17 +91,17 @@ fn add_methods(
 
 // Adds the fields of a class.
 fn add_fields(
-    table: &mut IndexMap<Signature, FieldId>,
+    table: &mut IndexMap<Member, FieldId>,
     set: &ClassSet,
     class: ClassId,
 ) -> Result<(), AllocError>
     requires { class < length set.now.classes }
-    ensures { OnOk result ((k : Signature) → lookup (is_key k) table.new.entries
+    ensures { OnOk result ((k : Member) → lookup (is_key k) table.new.entries
         ≡ option_or (lookup (is_key k) table.old.entries) (field_of_class set.now.classes class k)) }
 {
     let mut id = set.first_field(class);
     for field in set.class(class).fields.as_slice() {
-        let key = Signature {
+        let key = Member {
             class,
             name: field.name,
             descr: field.descr,
@@ -114,7 +113,7 @@ fn add_fields(
 }
 
 // The methods of all classes.
-fn all_methods(alloc: Global, set: &ClassSet) -> Result<IndexMap<Signature, MethodId>, AllocError>
+fn all_methods(alloc: Global, set: &ClassSet) -> Result<IndexMap<Member, MethodId>, AllocError>
     ensures { IfOk result (λ table. TellsMethods set.now.classes table.entries) }
 {
     let mut table = IndexMap::new(alloc);
@@ -126,7 +125,7 @@ fn all_methods(alloc: Global, set: &ClassSet) -> Result<IndexMap<Signature, Meth
 }
 
 // The fields of all classes.
-fn all_fields(alloc: Global, set: &ClassSet) -> Result<IndexMap<Signature, FieldId>, AllocError>
+fn all_fields(alloc: Global, set: &ClassSet) -> Result<IndexMap<Member, FieldId>, AllocError>
     ensures { IfOk result (λ table. TellsFields set.now.classes table.entries) }
 {
     let mut table = IndexMap::new(alloc);

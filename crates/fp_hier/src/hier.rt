@@ -11,19 +11,19 @@ use crate::bits::call_targets;
 use crate::calls::reach;
 use crate::declared::Declared;
 use crate::receivers::Receivers;
-use crate::superinterfaces::superinterface_lists;
+use crate::signature::Signature;
+use crate::superinterfaces::Superinterfaces;
 use crate::targets::{CallTargets, MethodName, Targets};
 use crate::{resolution, selection};
 use fp_model::{ClassId, ClassSet, FieldId, Instr, MethodId};
-use sqlite_items::Items;
 use std::alloc::{AllocError, Global};
 
 /// What is computed of a set of classes once, so that references and calls are looked up fast. Each call is given the set again.
 #[derive(Drop)]
 pub struct Hier {
-    superinterfaces: Vec<Items<u32>>,
-    declared: Declared,
-    receivers: Receivers,
+    pub(crate) superinterfaces: Superinterfaces,
+    pub(crate) declared: Declared,
+    pub(crate) receivers: Receivers,
 }
 
 impl Hier {
@@ -31,9 +31,9 @@ impl Hier {
     pub fn build(alloc: Global, set: &ClassSet) -> Result<Hier, AllocError>
         ensures { IfOk result (IsHierOf set.now) }
     {
-        let superinterfaces = superinterface_lists(alloc, set)?;
+        let superinterfaces = Superinterfaces::build(alloc, set)?;
         let declared = Declared::build(alloc, set)?;
-        let receivers = Receivers::build(alloc, set, superinterfaces.as_slice())?;
+        let receivers = Receivers::build(alloc, set, &superinterfaces)?;
         Ok(Hier {
             superinterfaces,
             declared,
@@ -54,8 +54,7 @@ impl Hier {
         ensures method { result ≡ resolution.resolve_method set.now.classes class name descr }
         ensures known { IfSome result (λ id. id < length (methods_of set.now.classes)) }
     {
-        let lists = self.superinterfaces.as_slice();
-        resolution::resolve_method(set, lists, &self.declared, class, name, descr)
+        resolution::resolve_method(self, set, class, Signature { name, descr })
     }
 
     /// The field that a reference means, by the numbers of its class's name, of its name and of its descriptor; none where the set has
@@ -71,8 +70,7 @@ impl Hier {
         ensures field { result ≡ resolution.resolve_field set.now.classes class name descr }
         ensures known { IfSome result (λ id. id < length (fields_of set.now.classes)) }
     {
-        let lists = self.superinterfaces.as_slice();
-        resolution::resolve_field(set, lists, &self.declared, class, name, descr)
+        resolution::resolve_field(self, set, class, Signature { name, descr })
     }
 
     /// The methods that an object of a class selects for a call (JVMS SE 21 section 5.4.6), by the method's name and descriptor.
@@ -87,7 +85,8 @@ impl Hier {
         requires class { class < length set.now.classes }
         ensures { IfOk result (AreTargets (length (methods_of set.now.classes)) (selected_at set.now class named.name named.descr)) }
     {
-        self.selected(alloc, set, class, named.name, named.descr)
+        let MethodName { name, descr, .. } = named;
+        selection::selected(alloc, self, set, class, Signature { name, descr })
     }
 
     /// The methods that an instruction of a method can reach: none, where it is no call (JVMS SE 21 section 6.5).
@@ -107,33 +106,6 @@ impl Hier {
         call_targets(alloc, reached.always, reached.by_class)
     }
 
-    /// What an object of a class selects.
-    pub(crate) fn selected(
-        &self,
-        alloc: Global,
-        set: &ClassSet,
-        class: ClassId,
-        name: u32,
-        descr: u32,
-    ) -> Result<Targets, AllocError>
-        requires hier { IsHierOf set.now self.now }
-        requires class { class < length set.now.classes }
-        ensures { IfOk result (AreTargets (length (methods_of set.now.classes)) (selected_at set.now class name descr)) }
-    {
-        let outside = self.receivers.has_outside_ancestor(set, class);
-        let lists = self.superinterfaces.as_slice();
-        selection::selected(
-            alloc,
-            set,
-            lists,
-            &self.declared,
-            class,
-            name,
-            descr,
-            outside,
-        )
-    }
-
     /// The classes that the objects of a reference to a class of this name may be of, ascending.
     pub(crate) fn receivers(
         &self,
@@ -144,7 +116,7 @@ impl Hier {
         requires { IsHierOf set.now self.now }
         ensures { IfOk result (λ ids. ids.items ≡ selection.receivers set.now name) }
     {
-        let lists = self.superinterfaces.as_slice();
-        self.receivers.of_reference(alloc, set, lists, name)
+        self.receivers
+            .of_reference(alloc, set, &self.superinterfaces, name)
     }
 }

@@ -11,10 +11,9 @@ mod lineage;
 mod receivers;
 mod resolution;
 mod selection;
+mod signature;
 mod superinterfaces;
 mod targets;
-#[cfg(test)]
-mod tests;
 mod texts;
 
 pub use hier::Hier;

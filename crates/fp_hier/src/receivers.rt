@@ -3,22 +3,24 @@ ghost use Rattle.std.specs.Prelude.{◌≡◌, ◌<◌, ◌+◌, true, All, Some
 ghost use Rattle.fp_model.specs.declared.class.Class.{Class};
 ghost use Rattle.fp_facts.specs.Hierarchy as hierarchy;
 ghost use Rattle.fp_facts.specs.Selection.{receivers};
-ghost use Rattle.fp_hier.specs.Receivers.{AreReceiversOf, fits_at, marked_in};
-ghost use Rattle.fp_hier.specs.Tables.{all_superinterfaces};
+ghost use Rattle.fp_hier.specs.Receivers.{AreReceiversOf, fits_at, is_marked, marked_in};
+ghost use Rattle.fp_hier.specs.Lists.{AreListsOf};
 
+mod marking;
 mod marks;
 mod own_names;
 
 use crate::bit_rows::BitRows;
 use crate::flags::is_concrete;
+use crate::superinterfaces::Superinterfaces;
 use crate::texts::{is_array_name, is_object};
 use fp_model::{ClassId, ClassSet};
-use marks::{ARRAYS, NAMED_OUTSIDE, OBJECTS, OUTSIDE, ROWS_OUTSIDE, mark_names};
+use marking::marked_rows;
+use marks::{ARRAYS, OBJECTS, OUTSIDE};
 use own_names::own_names;
-use sqlite_items::Items;
 use std::alloc::{AllocError, Global};
 
-/// For each class the concrete classes that go by its name, and the like for names outside the set.
+/// For each class those that go by its name, and the like for names outside the set.
 #[derive(Drop)]
 pub(crate) struct Receivers {
     // A row for each class, and behind them those of names outside the set.
@@ -30,19 +32,12 @@ impl Receivers {
     pub(crate) fn build(
         alloc: Global,
         set: &ClassSet,
-        superinterfaces: &[Items<u32>],
+        superinterfaces: &Superinterfaces,
     ) -> Result<Receivers, AllocError>
-        requires { superinterfaces.now ≡ all_superinterfaces set.now.classes }
+        requires { AreListsOf set.now.classes superinterfaces.now }
         ensures { IfOk result (AreReceiversOf set.now) }
     {
-        let (classes, _fields, _methods) = set.counts();
-        let count = classes as usize;
-        let mut rows = BitRows::new(alloc, count + ROWS_OUTSIDE, count)?;
-        for class in 0..classes {
-            let names = own_names(alloc, set, superinterfaces, class)?;
-            let concrete = is_concrete(set.class(class));
-            mark_names(&mut rows, set, class, concrete, names.as_slice());
-        }
+        let rows = marked_rows(alloc, set, superinterfaces)?;
         Ok(Receivers { rows })
     }
 
@@ -61,38 +56,51 @@ impl Receivers {
         &self,
         alloc: Global,
         set: &ClassSet,
-        superinterfaces: &[Items<u32>],
+        superinterfaces: &Superinterfaces,
         name: u32,
     ) -> Result<Vec<ClassId>, AllocError>
         requires rows { AreReceiversOf set.now self.now }
-        requires lists { superinterfaces.now ≡ all_superinterfaces set.now.classes }
+        requires lists { AreListsOf set.now.classes superinterfaces.now }
         ensures { IfOk result (λ ids. ids.items ≡ receivers set.now name) }
     {
         if let Some(id) = set.find_class(name) {
-            return self.rows.columns_of(alloc, id as usize);
+            return self.of_row(alloc, set, id as usize);
         }
         if is_array_name(set.names(), name) {
             return self.of_array(alloc, set, superinterfaces, name);
         }
+        let (classes, _fields, _methods) = set.counts();
+        let first = classes as usize;
         if is_object(set.names(), name) {
-            return self.of_row(alloc, set, OBJECTS);
+            return self.of_row(alloc, set, first + OBJECTS);
         }
-        self.of_row(alloc, set, NAMED_OUTSIDE)
+        self.of_row(alloc, set, first + OUTSIDE)
     }
 
-    // The classes with a mark in a row behind those of the classes.
-    fn of_row(
-        &self,
-        alloc: Global,
-        set: &ClassSet,
-        group: usize,
-    ) -> Result<Vec<ClassId>, AllocError>
+    // The concrete classes with a mark in a row.
+    fn of_row(&self, alloc: Global, set: &ClassSet, row: usize) -> Result<Vec<ClassId>, AllocError>
         requires rows { AreReceiversOf set.now self.now }
-        requires group { group < 4 }
-        ensures { IfOk result (λ ids. ids.items ≡ marked_in self.now.rows (length set.now.classes + group)) }
+        requires row { row < length set.now.classes + 3 }
+        ensures { IfOk result (λ ids. ids.items ≡ marked_in set.now self.now row) }
     {
         let (classes, _fields, _methods) = set.counts();
-        self.rows.columns_of(alloc, classes as usize + group)
+        let mut ids = Vec::new(alloc);
+        for class in 0..classes {
+            if self.is_marked(set, row, class) {
+                ids.push(class)?;
+            }
+        }
+        Ok(ids)
+    }
+
+    // Whether a class is concrete and has a mark in a row.
+    fn is_marked(&self, set: &ClassSet, row: usize, class: ClassId) -> bool
+        requires rows { AreReceiversOf set.now self.now }
+        requires row { row < length set.now.classes + 3 }
+        requires class { class < length set.now.classes }
+        ensures { result ≡ is_marked set.now self.now row class }
+    {
+        self.rows.has(row, class as usize) && is_concrete(set.class(class))
     }
 
     // The concrete classes that go by the name of a class of arrays. No class of a file does.
@@ -100,16 +108,17 @@ impl Receivers {
         &self,
         alloc: Global,
         set: &ClassSet,
-        superinterfaces: &[Items<u32>],
+        superinterfaces: &Superinterfaces,
         name: u32,
     ) -> Result<Vec<ClassId>, AllocError>
         requires rows { AreReceiversOf set.now self.now }
-        requires lists { superinterfaces.now ≡ all_superinterfaces set.now.classes }
+        requires lists { AreListsOf set.now.classes superinterfaces.now }
         requires outside { hierarchy.is_outside set.now.classes name ≡ true }
         requires array { hierarchy.is_array_name set.now.names name ≡ true }
         ensures { IfOk result (λ ids. ids.items ≡ receivers set.now name) }
     {
-        let marked = self.of_row(alloc, set, ARRAYS)?;
+        let (classes, _fields, _methods) = set.counts();
+        let marked = self.of_row(alloc, set, classes as usize + ARRAYS)?;
         that_go_by(alloc, set, superinterfaces, marked.as_slice(), name)
     }
 }
@@ -118,11 +127,11 @@ impl Receivers {
 fn that_go_by(
     alloc: Global,
     set: &ClassSet,
-    superinterfaces: &[Items<u32>],
+    superinterfaces: &Superinterfaces,
     classes: &[ClassId],
     name: u32,
 ) -> Result<Vec<ClassId>, AllocError>
-    requires lists { superinterfaces.now ≡ all_superinterfaces set.now.classes }
+    requires lists { AreListsOf set.now.classes superinterfaces.now }
     requires classes { All (λ class. class < length set.now.classes) classes.now }
     ensures { IfOk result (λ ids. ids.items ≡ filter (fits_at set.now.classes name) classes.now) }
 {
@@ -139,12 +148,12 @@ fn that_go_by(
 fn goes_by(
     alloc: Global,
     set: &ClassSet,
-    superinterfaces: &[Items<u32>],
+    superinterfaces: &Superinterfaces,
     class: ClassId,
     name: u32,
 ) -> Result<bool, AllocError>
     requires class { class < length set.now.classes }
-    requires lists { superinterfaces.now ≡ all_superinterfaces set.now.classes }
+    requires lists { AreListsOf set.now.classes superinterfaces.now }
     ensures { IfOk result (λ fits. fits ≡ fits_at set.now.classes name class) }
 {
     let names = own_names(alloc, set, superinterfaces, class)?;

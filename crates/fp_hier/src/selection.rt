@@ -1,67 +1,82 @@
 //! Which methods the objects of a class select.
-ghost use Rattle.std.specs.Prelude.{◌≡◌, ℕ, ◌<◌, ◌==◌, ◌||◌, [], length, slice_get, Some, IfOk, IfSome};
+ghost use Rattle.std.specs.Prelude.{◌≡◌, ℕ, ◌<◌, ◌==◌, ◌||◌, [], length, IfOk, IfSome};
 ghost use Rattle.std.specs.List.Sorted.{IsStrictlyIncreasing};
 ghost use Rattle.fp_model.specs.ClassSet.{methods_of};
-ghost use Rattle.fp_model.specs.declared.class.Class.{Class};
-ghost use Rattle.fp_facts.specs.Hierarchy.{has_number, has_outside_ancestor};
+ghost use Rattle.fp_facts.specs.Hierarchy.{has_number};
 ghost use Rattle.fp_facts.specs.Selection.{found_as, found_at, selected_at};
-ghost use Rattle.fp_hier.specs.Members.{IsDeclaredOf};
-ghost use Rattle.fp_hier.specs.Tables.{all_superinterfaces};
+ghost use Rattle.fp_hier.specs.Hierarchies.{IsHierOf};
+ghost use Rattle.fp_hier.specs.Sought.{is_of_class};
 ghost use Rattle.fp_hier.specs.Targets.{AreTargets};
 
 use crate::bits::ascending;
-use crate::declared::Declared;
 use crate::flags::{is_native, is_static};
+use crate::hier::Hier;
 use crate::resolution::{default_methods, instance_declaration};
+use crate::signature::Signature;
 use crate::targets::Targets;
 use fp_model::{ClassId, ClassSet, MethodId};
 use sqlite_items::Items;
 use std::alloc::{AllocError, Global};
 
+/// Whether a call is of a class's method or of an object's.
+#[derive(Clone, Copy)]
+pub(crate) enum Receiver {
+    /// It has no receiver: the method has to be static.
+    Class,
+    /// It has one: the method must not be static.
+    Object,
+}
+
 /// The methods that an object of a class selects for a call.
 pub(crate) fn selected(
     alloc: Global,
+    hier: &Hier,
     set: &ClassSet,
-    superinterfaces: &[Items<u32>],
-    declared: &Declared,
     class: ClassId,
-    name: u32,
-    descr: u32,
-    outside: bool,
+    signature: Signature,
 ) -> Result<Targets, AllocError>
+    requires hier { IsHierOf set.now hier.now }
     requires known { class < length set.now.classes }
-    requires lists { superinterfaces.now ≡ all_superinterfaces set.now.classes }
-    requires table { IsDeclaredOf set.now declared.now }
-    requires outside { (c : Class) → slice_get set.now.classes class ≡ Some c
-        → outside ≡ has_outside_ancestor set.now c }
     ensures { IfOk result
-        (λ t. AreTargets (length (methods_of set.now.classes)) (selected_at set.now class name descr) t) }
+        (λ t. AreTargets (length (methods_of set.now.classes)) (selected_at set.now class signature.name signature.descr) t) }
 {
-    if let Some(id) = instance_declaration(set, declared, class, name, descr) {
+    if let Some(id) = instance_declaration(hier, set, class, signature) {
         return found(alloc, set, id);
     }
-    let defaults = default_methods(alloc, set, superinterfaces, declared, class, name, descr)?;
+    let outside = hier.receivers.has_outside_ancestor(set, class);
+    let defaults = default_methods(alloc, hier, set, class, signature)?;
     Ok(with_defaults(defaults, outside))
 }
 
-/// The targets of a call that looks for one method, static or not as is wanted.
+/// The targets of a call that looks for one method.
 pub(crate) fn fixed_target(
     alloc: Global,
     set: &ClassSet,
     method: Option<MethodId>,
-    wanted: bool,
+    receiver: Receiver,
 ) -> Result<Targets, AllocError>
     requires { IfSome method (λ id. id < length (methods_of set.now.classes)) }
     ensures { IfOk result
-        (λ t. AreTargets (length (methods_of set.now.classes)) (found_as wanted set.now.classes method) t) }
+        (λ t. AreTargets (length (methods_of set.now.classes)) (found_as (is_of_class receiver) set.now.classes method) t) }
 {
     let Some(id) = method else {
         return Ok(Targets::none(alloc, true));
     };
+    let wanted = wants_static(receiver);
     if is_static(set.method(id)) != wanted {
         return Ok(Targets::none(alloc, false));
     }
     found(alloc, set, id)
+}
+
+// Whether the method has to be static.
+fn wants_static(receiver: Receiver) -> bool
+    ensures { result ≡ is_of_class receiver }
+{
+    match receiver {
+        Receiver::Class => true,
+        Receiver::Object => false,
+    }
 }
 
 // A method that was found: with code it is reached, a native one is the outside, and an abstract one is nothing.

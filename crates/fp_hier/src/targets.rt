@@ -17,7 +17,7 @@ pub struct MethodName {
 }
 
 /// The methods that objects of a class select.
-#[derive(Debug, Drop)]
+#[derive(Drop)]
 pub struct Targets {
     /// Those of the set, ascending and each once.
     pub methods: Items<MethodId>,
@@ -40,7 +40,7 @@ impl Targets {
 }
 
 /// The methods that a call can reach.
-#[derive(Debug, Drop)]
+#[derive(Drop)]
 pub struct CallTargets {
     /// Those of the set, ascending and each once. The bit of each is its place here, and the bit behind them all is that of the outside.
     pub targets: Items<MethodId>,

@@ -4,9 +4,9 @@ ghost use Rattle.fp_facts.specs.Sorts as sorts;
 ghost use Rattle.fp_facts.specs.Transfer as transfer;
 ghost use Rattle.fp_facts.specs.declared.effect.Effect.TheVariants.{Loads, Stores, Counts, Keeps, Shuffles, Takes};
 
-use crate::words::{ends_with, has_unset, same_sort, word_at};
+use crate::words::{ends_with, has_unset, same_sort};
 use fp_facts::{Effect, Label, Shuffling};
-use fp_flow::{is_wide, push_words, words_of};
+use fp_flow::{is_wide, push_words, shuffled, without_top, word_at, word_at_depth, words_of};
 use fp_model::Sort;
 use sqlite_items::Items;
 use std::alloc::{AllocError, Global};
@@ -16,8 +16,8 @@ fn holds_local(locals: &[Sort], at: u16, sort: Sort) -> bool
     ensures { result ≡ transfer.holds_local locals.now at sort }
 {
     !same_sort(sort, Sort::Unset)
-        && same_sort(word_at(locals, at as usize), sort)
-        && (!is_wide(sort) || same_sort(word_at(locals, at as usize + 1), Sort::Half))
+        && same_sort(word_at(locals, at as usize, Sort::Unset), sort)
+        && (!is_wide(sort) || same_sort(word_at(locals, at as usize + 1, Sort::Unset), Sort::Half))
 }
 
 /// A frame over copies of words.
@@ -28,14 +28,6 @@ fn frame(alloc: Global, locals: &[Sort], stack: Vec<Sort>) -> Result<Label<Sort>
         locals: Items::from_slice(alloc, locals)?,
         stack: Items::from_vec(stack),
     })
-}
-
-/// The stack without so many words on top.
-fn without_top(alloc: Global, stack: &[Sort], count: usize) -> Result<Vec<Sort>, AllocError>
-    requires { count ≤ length stack.now }
-    ensures { IfOk result (λ v. v.items ≡ transfer.without_top count stack.now) }
-{
-    Vec::from_slice(alloc, &stack[..stack.len() - count])
 }
 
 fn load(
@@ -104,19 +96,11 @@ fn store(
     })
 }
 
-fn at_depth(stack: &[Sort], depth: u8) -> Sort
-    ensures { result ≡ transfer.at_depth Sort.Unset stack.now depth }
-{
-    word_at(stack, stack.len().saturating_sub(depth as usize))
-}
-
 /// Whether no value of two words is cut.
 fn cuts_none(stack: &[Sort], depths: &[u8]) -> bool
     ensures { result ≡ transfer.cuts_none stack.now depths.now }
 {
-    depths
-        .iter()
-        .all(|depth| !same_sort(at_depth(stack, *depth), Sort::Half))
+    depths.iter().all(|depth| !same_sort(word_at_depth(stack, *depth, Sort::Unset), Sort::Half))
 }
 
 fn shuffle(
@@ -130,10 +114,7 @@ fn shuffle(
     if shuffling.takes as usize > stack.len() || !cuts_none(stack, shuffling.cuts.as_slice()) {
         return Ok(Label::Bad);
     }
-    let mut moved = without_top(alloc, stack, shuffling.takes as usize)?;
-    for depth in shuffling.order.as_slice() {
-        moved.push(at_depth(stack, *depth))?;
-    }
+    let moved = shuffled(alloc, shuffling, stack, Sort::Unset)?;
     frame(alloc, locals, moved)
 }
 

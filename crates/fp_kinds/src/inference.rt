@@ -1,4 +1,4 @@
-ghost use Rattle.std.specs.Prelude.{◌≡◌, ℕ, ◌≤◌, ◌<◌, ◌-◌, ◌∷◌, [], Some, length, replicate, slice_get, slice_index_or, true, false, IfOk, IfErr, MatchOption};
+ghost use Rattle.std.specs.Prelude.{◌≡◌, ℕ, ◌≤◌, ◌<◌, Some, length, slice_get, slice_index_or, true, false, IfOk, IfErr, MatchOption};
 ghost use Rattle.fp_model.specs.SoundCode.{IsSoundCode, IsSoundMethod};
 ghost use Rattle.fp_facts.specs.Edges.{edges_of};
 ghost use Rattle.fp_facts.specs.Kinded as kinded;
@@ -12,7 +12,7 @@ use crate::problem::{KindsProblem, label_behind};
 use crate::transfer::Transfer;
 use crate::transfers::transfers;
 use fp_facts::Label;
-use fp_flow::{Flow, argument_words, instr_count, result_words, solve};
+use fp_flow::{Flow, argument_words, entry_label, first_labels, instr_count, result_words, solve};
 use fp_model::{Code, Method, Sort};
 use sqlite_items::Items;
 use std::alloc::{AllocError, Global};
@@ -37,38 +37,6 @@ pub fn frame_words(code: &Code) -> u64
     ensures { result ≡ kinded.frame_words code.now }
 {
     u64::from(instr_count(code)) * (code.max_stack as u64 + code.max_locals as u64)
-}
-
-/// The label of a code's entry: the arguments in the first local variables, and an empty stack.
-fn entry(alloc: Global, code: &Code, arguments: &[Sort]) -> Result<Label<Sort>, AllocError>
-    ensures { IfOk result (λ l. l ≡ transfer.entry_label code.now arguments.now) }
-{
-    let mut locals = Vec::from_slice(alloc, arguments)?;
-    let others = (code.max_locals as usize).saturating_sub(arguments.len());
-    for _ in 0..others {
-        locals.push(Sort::Unset)?;
-    }
-    Ok(Label::Frame {
-        locals: Items::from_vec(locals),
-        stack: Items::new(alloc),
-    })
-}
-
-/// The labels at first: that of the entry, and none at the other instructions.
-fn first_labels(
-    alloc: Global,
-    entry: Label<Sort>,
-    instrs: usize,
-) -> Result<Vec<Label<Sort>>, AllocError>
-    requires { 0 < instrs }
-    ensures { IfOk result (λ v. v.items ≡ entry ∷ replicate (instrs - 1) Label.Unreached) }
-{
-    let mut labels = Vec::with_capacity(alloc, instrs)?;
-    labels.push(entry)?;
-    for _ in 0..instrs - 1 {
-        labels.push(Label::Unreached)?;
-    }
-    Ok(labels)
 }
 
 fn is_bad(label: &Label<Sort>) -> bool
@@ -159,7 +127,8 @@ fn solved(
     ensures labels { IfOk result (λ v. AreLabels method.now code.now v.items) }
 {
     let count = instr_count(code);
-    let first = first_labels(alloc, entry(alloc, code, sides.arguments)?, count as usize)?;
+    let entry = entry_label(alloc, code, sides.arguments, Sort::Unset)?;
+    let first = first_labels(alloc, entry, count as usize)?;
     let edges = flow.edges.as_slice();
     let problem = KindsProblem {
         code,

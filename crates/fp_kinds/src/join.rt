@@ -3,8 +3,9 @@ ghost use Rattle.std.specs.Prelude.{◌≡◌, ◌≢◌, IsTrue, false, length}
 ghost use Rattle.fp_facts.specs.Frames as frames;
 ghost use Rattle.fp_facts.specs.Sorts as sorts;
 
-use crate::words::{same_sort, word_at};
+use crate::words::same_sort;
 use fp_facts::Label;
+use fp_flow::word_at;
 use fp_model::Sort;
 use sqlite_items::Items;
 
@@ -34,7 +35,7 @@ fn join_words(into: &mut Items<Sort>, more: &[Sort])
     ensures { into.new ≡ frames.join_words sorts.join_sorts into.old more.now }
 {
     for (at, word) in more.iter().enumerate() {
-        let old = word_at(into.as_slice(), at);
+        let old = word_at(into.as_slice(), at, Sort::Unset);
         into.set(at, joined(old, *word));
     }
 }

@@ -1,16 +1,9 @@
 //! Words of frames.
-ghost use Rattle.std.specs.Prelude.{◌≡◌, ◌-◌, slice_index_or, IfOk};
+ghost use Rattle.std.specs.Prelude.{◌≡◌};
 ghost use Rattle.fp_facts.specs.Sorts as sorts;
 ghost use Rattle.fp_facts.specs.Transfer as transfer;
 
 use fp_model::Sort;
-
-/// The word at a place, and none behind the last.
-pub(crate) fn word_at(words: &[Sort], at: usize) -> Sort
-    ensures { result ≡ slice_index_or words.now at Sort.Unset }
-{
-    words.get(at).copied().unwrap_or(Sort::Unset)
-}
 
 /// Whether two sorts are one.
 pub(crate) fn same_sort(a: Sort, b: Sort) -> bool

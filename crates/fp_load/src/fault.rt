@@ -12,7 +12,7 @@ pub enum FileRefusal {
 }
 
 /// Why nothing was loaded.
-#[derive(Debug, Drop)]
+#[derive(Drop)]
 pub enum LoadFault {
     /// The listing of a directory, or the reading of a file, failed at this path.
     Read(String),

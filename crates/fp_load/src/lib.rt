@@ -8,8 +8,6 @@ mod judging;
 mod outcome;
 mod paths;
 mod reading;
-#[cfg(test)]
-mod tests;
 
 pub use directory::load;
 pub use fault::{FileRefusal, LoadFault};

@@ -1,4 +1,5 @@
--- Decoding: the instructions that bytes spell, or the first fault (JVMS SE 21 sections 4.9.1 and 4.10.1.9, chapter 6).
+-- Decoding: the instructions that the bytes of a code spell (JVMS SE 21 section 4.7.3), by the operands of each opcode (section 6.5)
+-- and what these have to be (section 4.9.1), or the first fault.
 use Rattle.std.specs.Prelude.{ℕ, zero, suc, ◌+◌, ◌-◌, ◌*◌, ◌%◌, ◌^◌, ◌==◌, nat_le, nat_lt, min, Bool, true, false, ◌&&◌, ◌||◌, List, [], ◌∷◌, ◌++◌, length, take, codes, slice_get, Option, Some, Result, Ok, Err, if◌then◌else◌}
 use Rattle.std.specs.Str.{bytes_eq}
 use Rattle.std.specs.Int.{w8, w16, w32}

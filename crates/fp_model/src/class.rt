@@ -1,6 +1,7 @@
 pub mod instr;
 
 use crate::kind::{Descr, Kind};
+use crate::shared::Shared;
 use instr::Instr;
 use sqlite_items::Items;
 
@@ -22,7 +23,7 @@ pub struct SiteId {
 }
 
 /// A class or interface. Names are numbers of a table of names.
-#[derive(Debug, Drop)]
+#[derive(Drop)]
 pub struct Class {
     pub name: u32,
     /// The name of the superclass, none for `java/lang/Object`.
@@ -48,13 +49,13 @@ pub struct Field {
 }
 
 /// A method.
-#[derive(Debug, Drop)]
+#[derive(Drop)]
 pub struct Method {
     pub name: u32,
     /// The number of the descriptor's text.
     pub descr: u32,
-    /// What the descriptor says.
-    pub kinds: Descr,
+    /// What the descriptor says, shared with the instructions that have it.
+    pub kinds: Shared<Descr>,
     /// The access flags.
     pub flags: u16,
     /// None for an abstract or native method.
@@ -62,7 +63,7 @@ pub struct Method {
 }
 
 /// The code of a method.
-#[derive(Debug, Drop)]
+#[derive(Drop)]
 pub struct Code {
     /// Each instruction with its offset in the code, in bytes.
     pub instrs: Items<(u16, Instr)>,
@@ -73,12 +74,16 @@ pub struct Code {
     pub max_locals: u16,
 }
 
-/// A row of the exception table.
+/// A row of the exception table (JVMS SE 21 section 4.7.3): while an instruction of a range of the code runs, a thrown object
+/// of a class is caught. Earlier rows come before later ones. Places are offsets in the code, in bytes.
 #[derive(Clone, Copy, Debug, PartialEq, Eq)]
 pub struct Guard {
+    /// The first instruction of the range.
     pub start: u16,
+    /// The first instruction behind the range, or the length of the code.
     pub end: u16,
+    /// The first instruction of the handler.
     pub handler: u16,
-    /// The name of the class that is caught, none for any.
+    /// The name of the class whose objects, and those of its subclasses, are caught, none for any.
     pub class: Option<u32>,
 }

@@ -9,8 +9,6 @@ mod duplicates;
 pub mod fault;
 mod index;
 mod readers;
-#[cfg(test)]
-mod tests;
 
 use crate::class::{Class, ClassId};
 use blame::first_marked_name;

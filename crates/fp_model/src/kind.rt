@@ -24,7 +24,7 @@ pub enum Elem {
 }
 
 /// A method descriptor (JVMS SE 21 section 4.3.3).
-#[derive(Debug, Drop)]
+#[derive(Drop)]
 pub struct Descr {
     /// The types of the parameters, in order, without a receiver.
     pub args: Items<Kind>,

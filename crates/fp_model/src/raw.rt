@@ -6,7 +6,7 @@ use pool::Pool;
 use sqlite_items::Items;
 
 /// A class file as it is cut into its parts, in the order of the file (JVMS SE 21 section 4.1).
-#[derive(Debug, Drop)]
+#[derive(Drop)]
 pub struct Raw {
     pub minor: u16,
     pub major: u16,
@@ -25,7 +25,7 @@ pub struct Raw {
 }
 
 /// A field or a method (JVMS SE 21 sections 4.5 and 4.6).
-#[derive(Debug, Drop)]
+#[derive(Drop)]
 pub struct RawMember {
     /// The access flags.
     pub flags: u16,

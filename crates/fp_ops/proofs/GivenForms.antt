@@ -25,7 +25,7 @@ use Rattle.fp_ops.specs.CallSites.{is_sound_site_at}
 use Rattle.fp_ops.specs.Checked.{GivesForms}
 use Rattle.fp_ops.specs.Forms.{index_in, is_named_op, is_site_op, is_sound_ins, takes_names}
 use Rattle.fp_ops.proofs.AskedOperands.{asked, is_asked, local_width}
-use Rattle.fp_ops.proofs.Referred.{passes_some}
+use Rattle.fp_ops.proofs.NamedParts.{passes-is_some}
 use Rattle.fp_ops.proofs.ShortTargets.{far_there, is_short, near_there, passes_weaker, places_there}
 
 -- ---- chains of tests
@@ -310,10 +310,10 @@ module _ (entries : List Entry) (boots : List BootRow) (given : GivesForms entri
       ∙ and_from (op == 197) (passes (is_entry_text is_array_text) (class_name_at entries index)) (here_eq op 197 is) (given.array index tag like)
 
   class_index_sound : (op index : ℕ) → op ≡ 187 → is_class_index entries index ≡ true → is_named_sound entries op index ≡ true
-  class_index_sound op index is class = class_sound op index (omega (arith, is)) (new_class op is) (passes_some _ (class_name_at entries index) class)
+  class_index_sound op index is class = class_sound op index (omega (arith, is)) (new_class op is) (passes-is_some _ (class_name_at entries index) class)
 
   type_sound : (op index : ℕ) → 192 ≤ op → op < 194 → ((tag_at entries index == 7) || (tag_at entries index == 7)) ≡ true → is_named_sound entries op index ≡ true
-  type_sound op index le lt tag = class_sound op index (omega (arith, le)) (type_class op le lt) (passes_some _ (class_name_at entries index) (class_there index tag))
+  type_sound op index le lt tag = class_sound op index (omega (arith, le)) (type_class op le lt) (passes-is_some _ (class_name_at entries index) (class_there index tag))
 
   -- ---- by the form
 
@@ -350,7 +350,7 @@ module _ (entries : List Entry) (boots : List BootRow) (given : GivesForms entri
         ∙ passes_weaker (λ index. (tag_at entries index == 18) || (tag_at entries index == 18)) (is_sound_site_at entries boots) (λ index tag. given.site index (eqb-true (tag_at entries index) 18 (either (tag_at entries index == 18) tag))) (index_in ins) passed
 
     local_there : passes (λ local. true) (found (number_at (local_width ins.wide) ins.args 0)) ≡ true → is_some (local_in ins) ≡ true
-    local_there passed = passes_some _ (local_in ins) passed
+    local_there passed = passes-is_some _ (local_in ins) passed
 
     -- what the operands name is asked for, and the branches lead to short places
     record IsGiven (f : Form) : Type 0 where

@@ -1,13 +1,32 @@
--- Names that instructions take.
-use Rattle.std.proofs.Common.{◌≡◌, inl, inr, ℕ, ◌+◌, List, Bool, true, Result, length, drop, ap, ◌∙◌, arith}
+-- What is there, and lists place by place.
+use Rattle.std.proofs.Common.{◌≡◌, inl, inr, ℕ, ◌+◌, List, [], ◌∷◌, ◌++◌, Bool, true, Option, Some, None, length, drop, refl, ap, ◌∙◌, arith}
 use Rattle.std.proofs.lemmas.Bool.{both_ways, cases_lt}
 use Rattle.std.proofs.lemmas.List.{take-append-drop}
+use Rattle.std.specs.List.{AllZip}
+use Rattle.std.specs.Option.{is_some}
 use Rattle.fp_model.specs.Descriptor.{StopsAt}
-use Rattle.fp_base.specs.declared.names.NameFault.{NameFault}
-use Rattle.fp_model.specs.Interning.{Interned}
-use Rattle.fp_model.specs.Taking.{Taken}
-use Rattle.fp_model.specs.NamedInstructions.{MemberTexts, IsMember}
-use Rattle.fp_model.proofs.LongerTables.{Keeps}
+use Rattle.fp_model.specs.Entries.{passes}
+
+-- ---- lists place by place
+
+pub AllZip-to : {A B : Type 0} (P Q : A → B → Type 0) (xs : List A) (ys : List B) → ((x : A) (y : B) → P x y → Q x y) → AllZip P xs ys → AllZip Q xs ys
+AllZip-to P Q [] [] f all = tt
+AllZip-to P Q [] (y ∷ ys) f all = absurd all
+AllZip-to P Q (x ∷ xs) [] f all = absurd all
+AllZip-to P Q (x ∷ xs) (y ∷ ys) f all = (f x y all.0, AllZip-to P Q xs ys f all.1)
+
+pub AllZip-more : {A B : Type 0} (P : A → B → Type 0) (xs : List A) (ys : List B) (x : A) (y : B) → AllZip P xs ys → P x y → AllZip P (xs ++ x ∷ []) (ys ++ y ∷ [])
+AllZip-more P [] [] x y all one = (one, tt)
+AllZip-more P [] (b ∷ ys) x y all one = absurd all
+AllZip-more P (a ∷ xs) [] x y all one = absurd all
+AllZip-more P (a ∷ xs) (b ∷ ys) x y all one = (all.0, AllZip-more P xs ys x y all.1 one)
+
+-- ---- what is there
+
+-- what passes a test is there
+pub passes-is_some : {A : Type 0} (test : A → Bool) (o : Option A) → passes test o ≡ true → is_some o ≡ true
+passes-is_some test None h = absurd (cc)
+passes-is_some test (Some x) h = refl
 
 -- a text that passes the test has no bad place
 pub not_bad : (test : List ℕ → Bool) (text : List ℕ) (at : ℕ) → test text ≡ true → StopsAt test text at → ⊥
@@ -16,15 +35,3 @@ not_bad test text at passes bad =
       | inl lt ↦ bad.after lt (drop (at + 1) text, ap test (take-append-drop (at + 1) text) ∙ passes)
       | inr ge ↦ both_ways (test text) (bad.whole (omega (arith, bad.within))) passes
     ]
-
--- what is said of a table that took texts, with less of a full one
-pub taken_of : {X : Type 0} (result : Result X NameFault) (old new texts : List (List ℕ)) → Interned result old new texts → Taken result old new texts
-taken_of result old new texts is = record { names = is.names; grown = is.grown; full = λ e. (is.full e).lacks; many = λ e. (is.full e).many }
-
--- numbers of texts are theirs in a longer table
-pub IsMember-kept : (names longer : List (List ℕ)) (texts : MemberTexts) (class name descr : ℕ) → Keeps names longer → IsMember names texts class name descr → IsMember longer texts class name descr
-IsMember-kept names longer texts class name descr kept is = record {
-  class_is = kept.stands class texts.class is.class_is;
-  name_is = kept.stands name texts.name is.name_is;
-  descr_is = kept.stands descr texts.descr is.descr_is;
-}

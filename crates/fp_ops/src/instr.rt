@@ -1,5 +1,5 @@
 //! The form of an instruction, with the names that it takes.
-ghost use Rattle.std.specs.Prelude.{◌≡◌, true, is_some, slice_index, IfErr, IfOk};
+ghost use Rattle.std.specs.Prelude.{◌≡◌, true, is_some, slice_index, IfErr, IfOk, OnOk};
 ghost use Rattle.std.specs.Int.{w16};
 ghost use Rattle.fp_model.specs.Descriptor.{is_method_descriptor};
 ghost use Rattle.fp_model.specs.Instructions as instructions;
@@ -7,18 +7,18 @@ ghost use Rattle.fp_model.specs.NamedInstructions.{call_texts, is_call_op, is_en
 ghost use Rattle.fp_model.specs.Taking.{Taken};
 ghost use Rattle.fp_model.specs.Entries.{passes};
 ghost use Rattle.fp_ops.specs.CallSites.{is_sound_site_at, site_texts_at, IsSiteAt};
+ghost use Rattle.fp_ops.specs.Memos.{IsMemo};
 ghost use Rattle.fp_ops.specs.Forms.{dims_in, index_in, instr_texts, is_named_op, is_site_op, is_sound_ins, takes_names, IsInstrOf};
 
-use crate::calls::call_at;
+use crate::memo::{Memo, empty_memo};
+use crate::named::call_at;
 use crate::plain::number_in;
 use crate::sites::site_instr_at;
 use crate::{jumps, named};
 use fp_base::{NameFault, Names};
+use fp_model::opcode::INVOKE_DYNAMIC;
 use fp_model::{BootRow, Entry, Instr, Pool, RawIns};
 use std::alloc::Global;
-
-/// The opcode of `invokedynamic`.
-pub const INVOKE_DYNAMIC: u8 = 186;
 
 /// Whether an opcode is that of an instruction that takes names and calls nothing.
 pub fn is_named(op: u8) -> bool
@@ -55,13 +55,16 @@ fn named_instr(
     entries: &[Entry],
     ins: &RawIns,
     names: &mut Names,
+    memo: &mut Memo,
 ) -> Result<Instr, NameFault>
-    requires { passes (λ index. is_named_sound entries.now ins.now.op index) (index_in ins.now) ≡ true }
+    requires there { passes (λ index. is_named_sound entries.now ins.now.op index) (index_in ins.now) ≡ true }
+    requires memo { IsMemo names.old entries.now memo.old }
     ensures instr { IfOk result (λ i. IsOf (λ index. IsNamedInstr names.new entries.now ins.now.op index (dims_in ins.now) i) (index_in ins.now)) }
     ensures names { Taken result names.old names.new (texts_by (λ index. named_texts entries.now ins.now.op index) (index_in ins.now)) }
+    ensures memo { OnOk result (IsMemo names.new entries.now memo.new) }
 {
     match index_of(ins) {
-        Some(index) => named::named_instr(alloc, entries, ins.op, index, dims_of(ins), names),
+        Some(index) => named::named_instr(alloc, entries, ins.op, index, dims_of(ins), names, memo),
         None => unreachable!(),
     }
 }
@@ -72,14 +75,17 @@ fn call_instr(
     entries: &[Entry],
     ins: &RawIns,
     names: &mut Names,
+    memo: &mut Memo,
 ) -> Result<Instr, NameFault>
     requires op { is_call_op ins.now.op ≡ true }
     requires there { passes (λ index. passes (λ texts. is_entry_text is_method_descriptor texts.descr) (member_at entries.now index)) (index_in ins.now) ≡ true }
+    requires memo { IsMemo names.old entries.now memo.old }
     ensures instr { IfOk result (λ i. IsOf (λ index. IsCallAt names.new entries.now ins.now.op index i) (index_in ins.now)) }
     ensures names { Taken result names.old names.new (texts_by (λ index. texts_by call_texts (member_at entries.now index)) (index_in ins.now)) }
+    ensures memo { OnOk result (IsMemo names.new entries.now memo.new) }
 {
     match index_of(ins) {
-        Some(index) => call_at(alloc, entries, ins.op, index, names),
+        Some(index) => call_at(alloc, entries, ins.op, index, names, memo),
         None => unreachable!(),
     }
 }
@@ -91,13 +97,16 @@ fn site_instr(
     boots: &[BootRow],
     ins: &RawIns,
     names: &mut Names,
+    memo: &mut Memo,
 ) -> Result<Instr, NameFault>
-    requires { passes (λ index. is_sound_site_at entries.now boots.now index) (index_in ins.now) ≡ true }
+    requires there { passes (λ index. is_sound_site_at entries.now boots.now index) (index_in ins.now) ≡ true }
+    requires memo { IsMemo names.old entries.now memo.old }
     ensures instr { IfOk result (λ i. IsOf (λ index. IsSiteAt names.new entries.now boots.now index i) (index_in ins.now)) }
     ensures names { Taken result names.old names.new (texts_by (λ index. site_texts_at entries.now boots.now index) (index_in ins.now)) }
+    ensures memo { OnOk result (IsMemo names.new entries.now memo.new) }
 {
     match index_of(ins) {
-        Some(index) => site_instr_at(alloc, entries, boots, index, names),
+        Some(index) => site_instr_at(alloc, entries, boots, index, names, memo),
         None => unreachable!(),
     }
 }
@@ -116,7 +125,40 @@ fn plain_instr(alloc: Global, entries: &[Entry], pc: u16, ins: &RawIns) -> Resul
 }
 
 /// The form of an instruction at an offset in a code, in bytes (JVMS SE 21 chapter 6), over a table of names, which takes
-/// the names that the instruction has.
+/// the names that the instruction has. What is known of the texts of the constant pool is in the memo, and is kept there.
+///
+/// The instruction is one that `decode` gives over this pool, with the rows of `BootstrapMethods`. Where the table is full
+/// or memory runs out, the table may have grown, and the memo is of no more use; the table is full only where it lacks one of
+/// the names.
+pub fn instr_with(
+    alloc: Global,
+    ins: &RawIns,
+    pc: u16,
+    pool: &Pool,
+    boots: &[BootRow],
+    names: &mut Names,
+    memo: &mut Memo,
+) -> Result<Instr, NameFault>
+    requires sound { is_sound_ins pool.now.entries boots.now pc ins.now ≡ true }
+    requires memo { IsMemo names.old pool.now.entries memo.old }
+    ensures instr { IfOk result (IsInstrOf names.new pool.now.entries boots.now pc ins.now) }
+    ensures names { Taken result names.old names.new (instr_texts pool.now.entries boots.now ins.now) }
+    ensures memo { OnOk result (IsMemo names.new pool.now.entries memo.new) }
+{
+    let entries = pool.entries.as_slice();
+    if is_named(ins.op) {
+        return named_instr(alloc, entries, ins, names, memo);
+    }
+    if is_call(ins.op) {
+        return call_instr(alloc, entries, ins, names, memo);
+    }
+    if ins.op == INVOKE_DYNAMIC {
+        return site_instr(alloc, entries, boots, ins, names, memo);
+    }
+    plain_instr(alloc, entries, pc, ins)
+}
+
+/// The same of one instruction alone.
 ///
 /// The instruction is one that `decode` gives over this pool, with the rows of `BootstrapMethods`. Where the table is full
 /// or memory runs out, the table may have grown; it is full only where it lacks one of the names.
@@ -132,15 +174,8 @@ pub fn to_instr(
     ensures instr { IfOk result (IsInstrOf names.new pool.now.entries boots.now pc ins.now) }
     ensures names { Taken result names.old names.new (instr_texts pool.now.entries boots.now ins.now) }
 {
-    let entries = pool.entries.as_slice();
-    if is_named(ins.op) {
-        return named_instr(alloc, entries, ins, names);
-    }
-    if is_call(ins.op) {
-        return call_instr(alloc, entries, ins, names);
-    }
-    if ins.op == INVOKE_DYNAMIC {
-        return site_instr(alloc, entries, boots, ins, names);
-    }
-    plain_instr(alloc, entries, pc, ins)
+    let Ok(mut memo) = empty_memo(alloc, pool.entries.as_slice()) else {
+        return Err(NameFault::Memory);
+    };
+    instr_with(alloc, ins, pc, pool, boots, names, &mut memo)
 }

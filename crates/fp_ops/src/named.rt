@@ -1,88 +1,20 @@
-//! The forms of instructions that take names from the constant pool.
-ghost use Rattle.std.specs.Prelude.{◌≡◌, ◌^◌, ◌<◌, ◌≤◌, ℕ, List, [], ◌∷◌, length, drop, slice_get, is_some, true, IfOk, IfNone, IfSome};
-ghost use Rattle.fp_model.specs.Descriptor.{is_array_like, is_class_text, is_field_descriptor, kind_names, IsKindOf};
+//! The forms of instructions that take names and of calls, where each text of the constant pool is read once.
+ghost use Rattle.std.specs.Prelude.{◌≡◌, ℕ, List, [], ◌∷◌, Some, drop, is_some, slice_get, true, unwrap_or, IfOk, OnOk};
+ghost use Rattle.fp_ops.specs.Memos.{IsMemo};
+ghost use Rattle.fp_ops.specs.References.{texts_at, AreTexts};
+ghost use Rattle.fp_model.specs.Descriptor.{is_array_like, is_class_text, is_field_descriptor, is_method_descriptor, kind_names, IsDescrOf, IsKindOf};
+ghost use Rattle.fp_model.specs.Entries.{class_name_at, passes, text_at};
 ghost use Rattle.fp_model.specs.Interning.{Interned};
-ghost use Rattle.fp_model.specs.Entries.{class_name_at, passes};
-ghost use Rattle.fp_model.specs.NamedInstructions.{class_kind_names, field_texts, is_array_text, is_class_op, is_entry_text, is_field_op, is_named_sound, member_at, named_texts, texts_by, IsArrayAt, IsClassAt, IsFieldAt, IsMultiArrayAt, IsArrayInstr, IsClassInstr, IsClassKind, IsFieldInstr, IsMember, IsMultiArrayInstr, IsNamedInstr, MemberTexts};
-ghost use Rattle.fp_model.specs.NamedInstructions as instructions;
+ghost use Rattle.fp_model.specs.NamedInstructions.{call_texts, class_kind_names, field_texts, is_array_text, is_call_op, is_class_op, is_entry_text, is_field_op, is_named_sound, member_at, named_texts, texts_by, IsArrayAt, IsArrayInstr, IsCallAt, IsCallInstr, IsClassAt, IsClassInstr, IsClassKind, IsFieldAt, IsFieldInstr, IsMember, IsMultiArrayAt, IsMultiArrayInstr, IsNamedInstr, MemberTexts};
+ghost use Rattle.fp_model.specs.Taking.{Taken};
 
+use crate::kinds::{element_at, kind_at, kinds_at};
+use crate::memo::Memo;
+use crate::naming::{class_name, text};
+use crate::references::{Numbers, Reference, class_text, number_all, reference_at};
 use fp_base::{NameFault, Names};
-use fp_model::look_up::{class_name, text};
-use fp_model::{DescrFault, Entry, Instr, Kind, read_kind};
-use sqlite_items::at;
+use fp_model::{Descr, Entry, Instr, Kind, Shared, look_up};
 use std::alloc::Global;
-
-/// The texts of a reference to a member.
-#[derive(Clone, Copy)]
-pub struct Member<'a> {
-    pub class: &'a [u8],
-    pub name: &'a [u8],
-    pub descr: &'a [u8],
-}
-
-/// The numbers of the texts of a reference to a member.
-#[derive(Clone, Copy)]
-pub struct Numbers {
-    pub class: u32,
-    pub name: u32,
-    pub descr: u32,
-}
-
-/// The number of a text.
-pub fn number(alloc: Global, text: &[u8], names: &mut Names) -> Result<u32, NameFault>
-    ensures number { IfOk result (λ n. slice_get names.new n ≡ Some text.now) }
-    ensures names { Interned result names.old names.new (text.now ∷ []) }
-{
-    names.intern(alloc, text)
-}
-
-/// The numbers of the texts of a reference to a member.
-pub fn number_all(
-    alloc: Global,
-    class: &[u8],
-    name: &[u8],
-    descr: &[u8],
-    names: &mut Names,
-) -> Result<Numbers, NameFault>
-    ensures numbers { IfOk result (λ n. IsMember names.new (record { class = class.now; name = name.now; descr = descr.now }) n.class n.name n.descr) }
-    ensures names { Interned result names.old names.new (class.now ∷ (name.now ∷ (descr.now ∷ []))) }
-{
-    let class = number(alloc, class, names)?;
-    let name = number(alloc, name, names)?;
-    let descr = number(alloc, descr, names)?;
-    Ok(Numbers { class, name, descr })
-}
-
-/// The kind that a field descriptor says.
-fn kind(alloc: Global, descr: &[u8], names: &mut Names) -> Result<Kind, NameFault>
-    requires descr { is_field_descriptor descr.now ≡ true }
-    requires short { length descr.now < 2 ^ 31 }
-    ensures kind { IfOk result (IsKindOf names.new descr.now) }
-    ensures names { Interned result names.old names.new (kind_names descr.now) }
-{
-    match read_kind(alloc, descr, names) {
-        Ok(kind) => Ok(kind),
-        Err(DescrFault::Full) => Err(NameFault::Full),
-        Err(DescrFault::Memory) => Err(NameFault::Memory),
-        Err(DescrFault::Bad { .. }) => unreachable!(),
-    }
-}
-
-/// An instruction with a class alone, by its opcode.
-fn class_instr(alloc: Global, op: u8, class: &[u8], names: &mut Names) -> Result<Instr, NameFault>
-    requires { is_class_op op ≡ true }
-    ensures instr { IfOk result (IsClassInstr names.new op class.now) }
-    ensures names { Interned result names.old names.new (class.now ∷ []) }
-{
-    match number(alloc, class, names) {
-        Ok(class) => match op {
-            187 => Ok(Instr::New { class }),
-            192 => Ok(Instr::CheckCast { class }),
-            _ => Ok(Instr::InstanceOf { class }),
-        },
-        Err(fault) => Err(fault),
-    }
-}
 
 /// An access to a field, by its opcode.
 fn field_access(op: u8, numbers: Numbers, kind: Kind) -> Instr
@@ -121,170 +53,276 @@ fn field_access(op: u8, numbers: Numbers, kind: Kind) -> Instr
     }
 }
 
-/// An access to a field, by its opcode and the texts of its reference.
-fn field_instr(alloc: Global, op: u8, texts: Member, names: &mut Names) -> Result<Instr, NameFault>
-    requires op { is_field_op op ≡ true }
-    requires descr { is_field_descriptor texts.descr.now ≡ true }
-    requires short { length texts.descr.now < 2 ^ 31 }
-    ensures instr { IfOk result (IsFieldInstr names.new op (record { class = texts.entry.class.now; name = texts.entry.name.now; descr = texts.entry.descr.now })) }
-    ensures names { Interned result names.old names.new (field_texts (record { class = texts.entry.class.now; name = texts.entry.name.now; descr = texts.entry.descr.now })) }
+/// A call of a method, by its opcode.
+fn call(op: u8, numbers: Numbers, kinds: Shared<Descr>) -> Instr
+    requires { is_call_op op ≡ true }
+    ensures { (names : List (List ℕ)) (texts : MemberTexts)
+        → IsMember names texts numbers.class numbers.name numbers.descr
+        → IsDescrOf names texts.descr kinds
+        → IsCallInstr names op texts result }
 {
-    let numbers = number_all(alloc, texts.class, texts.name, texts.descr, names)?;
-    let kind = kind(alloc, texts.descr, names)?;
+    let Numbers { class, name, descr } = numbers;
+    match op {
+        182 => Instr::InvokeVirtual {
+            class,
+            name,
+            descr,
+            kinds,
+        },
+        183 => Instr::InvokeSpecial {
+            class,
+            name,
+            descr,
+            kinds,
+        },
+        184 => Instr::InvokeStatic {
+            class,
+            name,
+            descr,
+            kinds,
+        },
+        _ => Instr::InvokeInterface {
+            class,
+            name,
+            descr,
+            kinds,
+        },
+    }
+}
+
+/// An instruction with a class alone, by its opcode.
+fn class_instr(op: u8, class: u32) -> Instr
+    requires { is_class_op op ≡ true }
+    ensures { (names : List (List ℕ)) (text : List ℕ) → slice_get names class ≡ Some text → IsClassInstr names op text result }
+{
+    match op {
+        187 => Instr::New { class },
+        192 => Instr::CheckCast { class },
+        _ => Instr::InstanceOf { class },
+    }
+}
+
+/// An access to a field, by its opcode and its reference.
+fn field_instr(
+    alloc: Global,
+    entries: &[Entry],
+    op: u8,
+    reference: Reference,
+    names: &mut Names,
+    memo: &mut Memo,
+) -> Result<Instr, NameFault>
+    requires op { is_field_op op ≡ true }
+    requires there { AreTexts entries.now reference.class reference.name reference.descr }
+    requires descr { passes (is_entry_text is_field_descriptor) (text_at entries.now reference.descr) ≡ true }
+    requires memo { IsMemo names.old entries.now memo.old }
+    ensures instr { IfOk result (IsFieldInstr names.new op (texts_at entries.now reference.class reference.name reference.descr)) }
+    ensures names { Interned result names.old names.new (field_texts (texts_at entries.now reference.class reference.name reference.descr)) }
+    ensures memo { OnOk result (IsMemo names.new entries.now memo.new) }
+{
+    let numbers = number_all(alloc, entries, reference, names, memo)?;
+    let kind = kind_at(alloc, entries, reference.descr, names, memo)?;
     Ok(field_access(op, numbers, kind))
 }
 
-/// The texts of the reference to a member at an index.
-pub fn texts_of(entries: &[Entry], index: u16) -> Option<Member<'_>>
-    ensures some { IfSome result (λ m. member_at entries.now index ≡ Some (record { class = m.class.now; name = m.name.now; descr = m.descr.now })) }
-    ensures none { IfNone result (member_at entries.now index ≡ None) }
-{
-    match at(entries, index as usize) {
-        Some(
-            Entry::FieldRef { class, pair }
-            | Entry::MethodRef { class, pair }
-            | Entry::InterfaceRef { class, pair },
-        ) => texts_with(entries, *class, *pair),
-        _ => None,
-    }
-}
-
-/// The texts of a class and a pair.
-fn texts_with(entries: &[Entry], class: u16, pair: u16) -> Option<Member<'_>>
-    ensures some { IfSome result (λ m. instructions.member_with entries.now class (slice_get entries.now pair) ≡ Some (record { class = m.class.now; name = m.name.now; descr = m.descr.now })) }
-    ensures none { IfNone result (instructions.member_with entries.now class (slice_get entries.now pair) ≡ None) }
-{
-    match at(entries, pair as usize) {
-        Some(Entry::Pair { name, descr }) => match class_name(entries, class) {
-            Some(class) => match text(entries, *name) {
-                Some(name) => match text(entries, *descr) {
-                    Some(descr) => Some(Member { class, name, descr }),
-                    None => None,
-                },
-                None => None,
-            },
-            None => None,
-        },
-        _ => None,
-    }
-}
-
-/// The kind of a class with such a name.
-fn class_kind(alloc: Global, text: &[u8], names: &mut Names) -> Result<Kind, NameFault>
-    requires class { is_class_text text.now ≡ true }
-    requires short { length text.now < 2 ^ 31 }
-    ensures kind { IfOk result (IsClassKind names.new text.now) }
-    ensures names { Interned result names.old names.new (class_kind_names text.now) }
-{
-    if matches!(text, [b'[', ..]) {
-        return kind(alloc, text, names);
-    }
-    match number(alloc, text, names) {
-        Ok(name) => Ok(Kind::Class(name)),
-        Err(fault) => Err(fault),
-    }
-}
-
-/// An array of one dimension, by the name of its elements' class.
-fn array_instr(alloc: Global, class: &[u8], names: &mut Names) -> Result<Instr, NameFault>
-    requires class { is_class_text class.now ≡ true }
-    requires short { length class.now < 2 ^ 31 }
-    ensures instr { IfOk result (IsArrayInstr names.new class.now) }
-    ensures names { Interned result names.old names.new (class_kind_names class.now) }
-{
-    match class_kind(alloc, class, names) {
-        Ok(element) => Ok(Instr::NewArray { dims: 1, element }),
-        Err(fault) => Err(fault),
-    }
-}
-
-/// An array of so many dimensions, by the name of its class.
-fn multi_array_instr(
-    alloc: Global,
-    dims: u8,
-    class: &[u8],
-    names: &mut Names,
-) -> Result<Instr, NameFault>
-    requires array { is_array_text class.now ≡ true }
-    requires short { length class.now < 2 ^ 31 }
-    ensures instr { IfOk result (IsMultiArrayInstr names.new dims class.now) }
-    ensures names { Interned result names.old names.new (kind_names (drop 1 class.now)) }
-{
-    match kind(alloc, &class[1..], names) {
-        Ok(element) => Ok(Instr::NewArray { dims, element }),
-        Err(fault) => Err(fault),
-    }
-}
-
 /// An access to a field, by its opcode and the index of its reference.
-pub fn field_at(
+fn field_at(
     alloc: Global,
     entries: &[Entry],
     op: u8,
     index: u16,
     names: &mut Names,
+    memo: &mut Memo,
 ) -> Result<Instr, NameFault>
     requires op { is_field_op op ≡ true }
     requires there { passes (λ texts. is_entry_text is_field_descriptor texts.descr) (member_at entries.now index) ≡ true }
+    requires memo { IsMemo names.old entries.now memo.old }
     ensures instr { IfOk result (IsFieldAt names.new entries.now op index) }
     ensures names { Interned result names.old names.new (texts_by field_texts (member_at entries.now index)) }
+    ensures memo { OnOk result (IsMemo names.new entries.now memo.new) }
 {
-    match texts_of(entries, index) {
-        Some(texts) => field_instr(alloc, op, texts, names),
+    match reference_at(entries, index) {
+        Some(reference) => field_instr(alloc, entries, op, reference, names, memo),
+        None => unreachable!(),
+    }
+}
+
+/// A call of a method, by its opcode and its reference.
+fn call_instr(
+    alloc: Global,
+    entries: &[Entry],
+    op: u8,
+    reference: Reference,
+    names: &mut Names,
+    memo: &mut Memo,
+) -> Result<Instr, NameFault>
+    requires op { is_call_op op ≡ true }
+    requires there { AreTexts entries.now reference.class reference.name reference.descr }
+    requires descr { passes (is_entry_text is_method_descriptor) (text_at entries.now reference.descr) ≡ true }
+    requires memo { IsMemo names.old entries.now memo.old }
+    ensures instr { IfOk result (IsCallInstr names.new op (texts_at entries.now reference.class reference.name reference.descr)) }
+    ensures names { Taken result names.old names.new (call_texts (texts_at entries.now reference.class reference.name reference.descr)) }
+    ensures memo { OnOk result (IsMemo names.new entries.now memo.new) }
+{
+    let numbers = number_all(alloc, entries, reference, names, memo)?;
+    let kinds = kinds_at(alloc, entries, reference.descr, names, memo)?;
+    Ok(call(op, numbers, kinds))
+}
+
+/// A call of a method, by its opcode and the index of its reference.
+pub fn call_at(
+    alloc: Global,
+    entries: &[Entry],
+    op: u8,
+    index: u16,
+    names: &mut Names,
+    memo: &mut Memo,
+) -> Result<Instr, NameFault>
+    requires op { is_call_op op ≡ true }
+    requires there { passes (λ texts. is_entry_text is_method_descriptor texts.descr) (member_at entries.now index) ≡ true }
+    requires memo { IsMemo names.old entries.now memo.old }
+    ensures instr { IfOk result (IsCallAt names.new entries.now op index) }
+    ensures names { Taken result names.old names.new (texts_by call_texts (member_at entries.now index)) }
+    ensures memo { OnOk result (IsMemo names.new entries.now memo.new) }
+{
+    match reference_at(entries, index) {
+        Some(reference) => call_instr(alloc, entries, op, reference, names, memo),
         None => unreachable!(),
     }
 }
 
 /// An instruction with a class alone, by its opcode and the index of the class.
-pub fn class_at(
+fn class_at(
     alloc: Global,
     entries: &[Entry],
     op: u8,
     index: u16,
     names: &mut Names,
+    memo: &mut Memo,
 ) -> Result<Instr, NameFault>
     requires op { is_class_op op ≡ true }
     requires there { is_some (class_name_at entries.now index) ≡ true }
+    requires memo { IsMemo names.old entries.now memo.old }
     ensures instr { IfOk result (IsClassAt names.new entries.now op index) }
     ensures names { Interned result names.old names.new (texts_by (λ text. text ∷ []) (class_name_at entries.now index)) }
+    ensures memo { OnOk result (IsMemo names.new entries.now memo.new) }
 {
-    match class_name(entries, index) {
-        Some(class) => class_instr(alloc, op, class, names),
-        None => unreachable!(),
+    match class_name(alloc, entries, index, names, memo) {
+        Ok(class) => Ok(class_instr(op, class)),
+        Err(fault) => Err(fault),
     }
 }
 
-/// An array of one dimension, by the index of its elements' class.
-pub fn array_at(
+/// Whether the text at an index is the name of an array class.
+fn is_array(entries: &[Entry], index: u16) -> bool
+    ensures { result ≡ is_array_like (unwrap_or (text_at entries.now index) []) }
+{
+    match look_up::text(entries, index) {
+        Some(name) => matches!(name, [b'[', ..]),
+        None => false,
+    }
+}
+
+/// The kind of a class, by the index of its name.
+fn class_kind(
     alloc: Global,
     entries: &[Entry],
     index: u16,
     names: &mut Names,
+    memo: &mut Memo,
+) -> Result<Kind, NameFault>
+    requires class { passes (is_entry_text is_class_text) (text_at entries.now index) ≡ true }
+    requires memo { IsMemo names.old entries.now memo.old }
+    ensures kind { IfOk result (IsClassKind names.new (unwrap_or (text_at entries.now index) [])) }
+    ensures names { Interned result names.old names.new (class_kind_names (unwrap_or (text_at entries.now index) [])) }
+    ensures memo { OnOk result (IsMemo names.new entries.now memo.new) }
+{
+    if is_array(entries, index) {
+        return kind_at(alloc, entries, index, names, memo);
+    }
+    match text(alloc, entries, index, names, memo) {
+        Ok(name) => Ok(Kind::Class(name)),
+        Err(fault) => Err(fault),
+    }
+}
+
+/// An array of one dimension, by the index of the name of its elements' class.
+fn array_instr(
+    alloc: Global,
+    entries: &[Entry],
+    index: u16,
+    names: &mut Names,
+    memo: &mut Memo,
+) -> Result<Instr, NameFault>
+    requires class { passes (is_entry_text is_class_text) (text_at entries.now index) ≡ true }
+    requires memo { IsMemo names.old entries.now memo.old }
+    ensures instr { IfOk result (IsArrayInstr names.new (unwrap_or (text_at entries.now index) [])) }
+    ensures names { Interned result names.old names.new (class_kind_names (unwrap_or (text_at entries.now index) [])) }
+    ensures memo { OnOk result (IsMemo names.new entries.now memo.new) }
+{
+    match class_kind(alloc, entries, index, names, memo) {
+        Ok(element) => Ok(Instr::NewArray { dims: 1, element }),
+        Err(fault) => Err(fault),
+    }
+}
+
+/// An array of one dimension, by the index of its elements' class.
+fn array_at(
+    alloc: Global,
+    entries: &[Entry],
+    index: u16,
+    names: &mut Names,
+    memo: &mut Memo,
 ) -> Result<Instr, NameFault>
     requires there { passes (is_entry_text is_class_text) (class_name_at entries.now index) ≡ true }
+    requires memo { IsMemo names.old entries.now memo.old }
     ensures instr { IfOk result (IsArrayAt names.new entries.now index) }
     ensures names { Interned result names.old names.new (texts_by class_kind_names (class_name_at entries.now index)) }
+    ensures memo { OnOk result (IsMemo names.new entries.now memo.new) }
 {
-    match class_name(entries, index) {
-        Some(class) => array_instr(alloc, class, names),
+    match class_text(entries, index) {
+        Some(name) => array_instr(alloc, entries, name, names, memo),
         None => unreachable!(),
     }
 }
 
-/// An array of so many dimensions, by the index of its class.
-pub fn multi_array_at(
+/// An array of so many dimensions, by the index of the name of its class.
+fn multi_array_instr(
     alloc: Global,
     entries: &[Entry],
     index: u16,
     dims: u8,
     names: &mut Names,
+    memo: &mut Memo,
+) -> Result<Instr, NameFault>
+    requires class { passes (is_entry_text is_array_text) (text_at entries.now index) ≡ true }
+    requires memo { IsMemo names.old entries.now memo.old }
+    ensures instr { IfOk result (IsMultiArrayInstr names.new dims (unwrap_or (text_at entries.now index) [])) }
+    ensures names { Interned result names.old names.new (kind_names (drop 1 (unwrap_or (text_at entries.now index) []))) }
+    ensures memo { OnOk result (IsMemo names.new entries.now memo.new) }
+{
+    match element_at(alloc, entries, index, names, memo) {
+        Ok(element) => Ok(Instr::NewArray { dims, element }),
+        Err(fault) => Err(fault),
+    }
+}
+
+/// An array of so many dimensions, by the index of its class.
+fn multi_array_at(
+    alloc: Global,
+    entries: &[Entry],
+    index: u16,
+    dims: u8,
+    names: &mut Names,
+    memo: &mut Memo,
 ) -> Result<Instr, NameFault>
     requires there { passes (is_entry_text is_array_text) (class_name_at entries.now index) ≡ true }
+    requires memo { IsMemo names.old entries.now memo.old }
     ensures instr { IfOk result (IsMultiArrayAt names.new entries.now index dims) }
     ensures names { Interned result names.old names.new (texts_by (λ text. kind_names (drop 1 text)) (class_name_at entries.now index)) }
+    ensures memo { OnOk result (IsMemo names.new entries.now memo.new) }
 {
-    match class_name(entries, index) {
-        Some(class) => multi_array_instr(alloc, dims, class, names),
+    match class_text(entries, index) {
+        Some(name) => multi_array_instr(alloc, entries, name, dims, names, memo),
         None => unreachable!(),
     }
 }
@@ -298,16 +336,19 @@ pub fn named_instr(
     index: u16,
     dims: u8,
     names: &mut Names,
+    memo: &mut Memo,
 ) -> Result<Instr, NameFault>
-    requires { is_named_sound entries.now op index ≡ true }
+    requires sound { is_named_sound entries.now op index ≡ true }
+    requires memo { IsMemo names.old entries.now memo.old }
     ensures instr { IfOk result (IsNamedInstr names.new entries.now op index dims) }
     ensures names { Interned result names.old names.new (named_texts entries.now op index) }
+    ensures memo { OnOk result (IsMemo names.new entries.now memo.new) }
 {
     match op {
-        178..=181 => field_at(alloc, entries, op, index, names),
-        187 | 192 | 193 => class_at(alloc, entries, op, index, names),
-        189 => array_at(alloc, entries, index, names),
-        197 => multi_array_at(alloc, entries, index, dims, names),
+        178..=181 => field_at(alloc, entries, op, index, names, memo),
+        187 | 192 | 193 => class_at(alloc, entries, op, index, names, memo),
+        189 => array_at(alloc, entries, index, names, memo),
+        197 => multi_array_at(alloc, entries, index, dims, names, memo),
         _ => unreachable!(),
     }
 }

@@ -5,11 +5,9 @@ ghost use Rattle.fp_model.specs.Decoding as decoding;
 
 use crate::{constants, switches};
 use fp_model::look_up::{self, CLASS, INTERFACE_METHOD, INVOKE_DYNAMIC, is_class};
+use fp_model::opcode::RET;
 use fp_model::reading::{behind, u8_at, u16_at};
 use fp_model::{Entry, FileFault, Form};
-
-/// The opcode of `ret`.
-const RET: u8 = 169;
 
 /// The codes of primitive types that `newarray` takes.
 const FIRST_TYPE: u8 = 4;

@@ -7,13 +7,11 @@ ghost use Rattle.fp_model.specs.Decoding.{all_at, decoded, ins_at, plain_at, pad
 
 use crate::forms::operands_of;
 use crate::operands::{operands_end, wide_end};
+use fp_model::opcode::WIDE;
 use fp_model::reading::{run_at, u8_at};
 use fp_model::{Entry, FileFault, Form, Pool, RawIns};
 use sqlite_items::Items;
 use std::alloc::Global;
-
-/// The opcode of `wide`.
-const WIDE: u8 = 196;
 
 /// How many bytes stand before the operands of a switch, so that these begin at a multiple of four bytes from `start`.
 fn padding(start: u32, op_at: u32, form: Form) -> u32

@@ -5,16 +5,18 @@ ghost use Rattle.fp_model.specs.Descriptor as descriptor;
 ghost use Rattle.fp_model.specs.Descriptor.{is_field_descriptor, is_method_descriptor};
 ghost use Rattle.fp_model.specs.Instructions as instructions;
 ghost use Rattle.fp_model.specs.NamedInstructions as named;
-ghost use Rattle.fp_model.specs.NamedInstructions.{is_entry_text, member_at};
+ghost use Rattle.fp_model.specs.NamedInstructions.{all_texts, is_entry_text, member_at};
 ghost use Rattle.fp_model.specs.Entries.{class_name_at, passes, text_at};
-ghost use Rattle.fp_ops.specs.CallSites.{is_sound_arg_at, is_sound_site, is_sound_site_at};
+ghost use Rattle.fp_ops.specs.CallSites as call_sites;
+ghost use Rattle.fp_ops.specs.CallSites.{handle_with, is_sound_arg_at, is_sound_site_at, site_by};
 ghost use Rattle.fp_ops.specs.Forms.{index_in, is_sound_ins};
 
-use crate::instr::{INVOKE_DYNAMIC, index_of, is_call, is_named};
+use crate::instr::{index_of, is_call, is_named};
 use crate::jumps::plain_instr;
-use crate::named::texts_of;
-use crate::sites::site_at;
+use crate::sites::{Site, site_at};
+use crate::texts::{texts_of, texts_with};
 use fp_model::look_up::{class_name, text};
+use fp_model::opcode::INVOKE_DYNAMIC;
 use fp_model::{BootRow, Entry, Pool, RawIns, is_descr, is_kind};
 use sqlite_items::at;
 use std::alloc::{AllocError, Global};
@@ -131,12 +133,25 @@ fn are_sound_args(entries: &[Entry], indexes: &[u16]) -> bool
     indexes.iter().all(|index| is_sound_arg(entries, *index))
 }
 
+/// Whether a call site has all of its texts and is sound.
+fn is_sound_site(entries: &[Entry], site: Site) -> bool
+    ensures { result ≡ passes (call_sites.is_sound_site entries.now) (site_by (text_at entries.now site.entry.name) (text_at entries.now site.entry.descr) (handle_with site.entry.method.kind (all_texts (text_at entries.now site.entry.method.member.class) (text_at entries.now site.entry.method.member.name) (text_at entries.now site.entry.method.member.descr))) site.entry.args.now) }
+{
+    let has_member = texts_with(entries, site.method.member).is_some();
+    match text(entries, site.descr) {
+        Some(descr) if has_member && text(entries, site.name).is_some() => {
+            is_method_text(descr) && are_sound_args(entries, site.args)
+        }
+        _ => false,
+    }
+}
+
 /// Whether the call site at an index is sound.
 fn is_site(entries: &[Entry], boots: &[BootRow], index: u16) -> bool
     ensures { result ≡ is_sound_site_at entries.now boots.now index }
 {
     match site_at(entries, boots, index) {
-        Some(site) => is_method_text(site.descr) && are_sound_args(entries, site.args),
+        Some(site) => is_sound_site(entries, site),
         None => false,
     }
 }

@@ -1,4 +1,5 @@
 pub mod Answers
+pub mod Ascending
 pub mod Groups
 pub mod Growth
 pub mod Numbering

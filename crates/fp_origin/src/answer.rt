@@ -1,7 +1,6 @@
 use fp_facts::OriginSet;
 use sqlite_items::Items;
 use std::alloc::AllocError;
-use thiserror::Error;
 
 /// The origins of the words of a code's frames.
 #[derive(Debug, Drop)]
@@ -12,13 +11,11 @@ pub struct Origins {
 }
 
 /// Why a code has no origins.
-#[derive(Debug, Drop, Error)]
+#[derive(Clone, Copy, Debug, PartialEq, Eq)]
 pub enum OriginFault {
     /// There are more pairs of a word and an origin than are told.
-    #[error("too many origin pairs")]
     Limit,
     /// There was no memory.
-    #[error("out of memory")]
     Memory,
 }
 

@@ -1,9 +1,8 @@
 //! The flow of a group of origins through a code.
-ghost use Rattle.std.specs.Prelude.{◌≡◌, ◌<◌, ◌≤◌, ◌-◌, ◌∷◌, Some, length, replicate, IfOk};
+ghost use Rattle.std.specs.Prelude.{◌≡◌, ◌≤◌, Some, length, IfOk};
 ghost use Rattle.fp_model.specs.SoundCode.{IsSoundMethod};
 ghost use Rattle.fp_facts.specs.Edges.{edges_of};
 ghost use Rattle.fp_facts.specs.Kinded.{IsKindedCode};
-ghost use Rattle.fp_facts.specs.Moves as moves;
 ghost use Rattle.fp_origin.specs.Groups.{AreGroupLabels};
 
 mod arguments;
@@ -16,44 +15,11 @@ mod transfers;
 use arguments::entry_words;
 use bits::origin_bits;
 use fp_facts::{Label, Origin};
-use fp_flow::{Flow, instr_count, solve};
+use fp_flow::{Flow, entry_label, first_labels, instr_count, solve};
 use fp_model::{Code, Method};
 use problem::OriginsProblem;
-use sqlite_items::Items;
 use std::alloc::{AllocError, Global};
 use transfers::transfers;
-
-/// The label of a code's entry: the arguments in the first local variables, and an empty stack.
-fn entry_label(alloc: Global, code: &Code, arguments: &[u64]) -> Result<Label<u64>, AllocError>
-    ensures { IfOk result (λ l. l ≡ moves.entry_words 0 code.now arguments.now) }
-{
-    let mut locals = Vec::from_slice(alloc, arguments)?;
-    let others = (code.max_locals as usize).saturating_sub(arguments.len());
-    for _ in 0..others {
-        locals.push(0)?;
-    }
-    Ok(Label::Frame {
-        locals: Items::from_vec(locals),
-        stack: Items::new(alloc),
-    })
-}
-
-/// The labels at first: that of the entry, and none at the other instructions.
-fn first_labels(
-    alloc: Global,
-    entry: Label<u64>,
-    instrs: usize,
-) -> Result<Vec<Label<u64>>, AllocError>
-    requires { 0 < instrs }
-    ensures { IfOk result (λ v. v.items ≡ entry ∷ replicate (instrs - 1) Label.Unreached) }
-{
-    let mut labels = Vec::with_capacity(alloc, instrs)?;
-    labels.push(entry)?;
-    for _ in 0..instrs - 1 {
-        labels.push(Label::Unreached)?;
-    }
-    Ok(labels)
-}
 
 /// The label before each instruction, whose words tell by a bit for each origin of the group whether they may come from it.
 pub(crate) fn group_labels(
@@ -72,7 +38,7 @@ pub(crate) fn group_labels(
 {
     let transfers = transfers(alloc, group, code)?;
     let arguments = entry_words(alloc, group, method, code.max_locals)?;
-    let entry = entry_label(alloc, code, arguments.as_slice())?;
+    let entry = entry_label(alloc, code, arguments.as_slice(), 0)?;
     let first = first_labels(alloc, entry, instr_count(code) as usize)?;
     let edges = flow.edges.as_slice();
     let problem = OriginsProblem {

@@ -12,6 +12,3 @@ pub use cut::cut_pool;
 pub use laws::law_spelled_pool;
 pub use reader::read_pool;
 pub use references::{check_references, entry_size};
-
-#[cfg(test)]
-mod tests;

@@ -1,4 +1,5 @@
 mod CellLemmas
 mod LineLemmas
 mod ReportLemmas
+mod SiteLemmas
 mod WordLemmas

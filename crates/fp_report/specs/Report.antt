@@ -1,5 +1,5 @@
 -- The report on the cells of a solved system.
-use Rattle.std.specs.Prelude.{◌≡◌, ◌≢◌, ℕ, ◌+◌, ◌==◌, ◌<◌, Bool, ◌&&◌, List, [], ◌∷◌, ◌++◌, codes, length, map, slice_get, unwrap_or, All, None, if◌then◌else◌}
+use Rattle.std.specs.Prelude.{◌≡◌, ◌≢◌, ℕ, ◌+◌, ◌==◌, ◌<◌, Bool, ◌&&◌, List, [], ◌∷◌, ◌++◌, codes, length, map, slice_get, slice_index_or, unwrap_or, All, None, if◌then◌else◌}
 use Rattle.std.specs.List.{range_with_len}
 use Rattle.std.specs.Option.{option_map_or}
 use Rattle.std.specs.Fmt.{decimal}
@@ -21,6 +21,11 @@ is_site a b = (a.method == b.method) && (a.pc == b.pc)
 abbrev pub targets_of : List (SiteId × List ℕ) → SiteId → List ℕ
 targets_of [] site = []
 targets_of (pair ∷ pairs) site = if is_site pair.0 site then pair.1 else targets_of pairs site
+
+-- the pair at a place is of the site, and has its methods
+pub record IsSiteAt (targets : List (SiteId × List ℕ)) (site : SiteId) (at : ℕ) : Type 0 where
+  pub within : at < length targets
+  pub methods_are : (d : SiteId × List ℕ) → (slice_index_or targets at d).1 ≡ targets_of targets site
 
 -- the methods that a cell of callees has a bit for
 abbrev pub cell_targets : List (SiteId × List ℕ) → KindId → Entity → List ℕ

@@ -3,5 +3,6 @@
 
 mod lines;
 mod printing;
+mod targets;
 
 pub use printing::{PrintFault, print};

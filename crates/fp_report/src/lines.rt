@@ -1,13 +1,15 @@
 //! The lines of a report.
-ghost use Rattle.std.specs.Prelude.{◌≡◌, ◌≢◌, [], ◌+◌, ◌<◌, ◌≤◌, ◌++◌, ◌∷◌, Some, None, length, map, slice_index, unwrap_or, slice_get, string_bytes, All, IfOk, if◌then◌else◌};
+ghost use Rattle.std.specs.Prelude.{◌≡◌, ◌≢◌, [], ◌+◌, ◌<◌, ◌≤◌, ◌++◌, ◌∷◌, Some, None, length, map, slice_index, unwrap_or, slice_get, string_bytes, All, true, IfOk, if◌then◌else◌};
 ghost use Rattle.fp_eqs.specs.Solved.{flag_at};
 ghost use Rattle.fp_model.specs.ClassSet.{methods_of};
 ghost use Rattle.std.specs.List.{range_with_len};
 ghost use Rattle.fp_cells.specs.Cells.{cell_from, total_places};
 ghost use Rattle.fp_cells.specs.Entities.{IsEntityOf, entity_text, kind_text};
+ghost use Rattle.fp_report.specs.Sites.{are_ascending};
 ghost use Rattle.fp_cells.specs.Texts.{FitsKind, value_text_of};
-ghost use Rattle.fp_report.specs.Report.{cell_line, cell_targets, count_line, demanded_from, line_at, report, target_texts, targets_of, IsCellOf, IsReportable};
+ghost use Rattle.fp_report.specs.Report.{cell_line, cell_targets, count_line, demanded_from, line_at, report, target_texts, IsCellOf, IsReportable};
 
+use crate::targets::{are_ascending, targets_of};
 use fp_base::sort_texts;
 use fp_cells::{
     Cells, Entity, JavaView, KindId, append_entity, count_places, kind_text, value_text,
@@ -27,7 +29,8 @@ pub fn report_lines(
     requires { IsReportable set.now system.now.cells.now system.now.targets.now system.now.shown.now (length solved.now.values) (length solved.now.wanted) }
     ensures { IfOk result (λ lines. map (λ l. l.items) lines.items ≡ report set.now system.now.cells.now system.now.targets.now system.now.shown.now (slice_index solved.now.values) (flag_at solved.now.wanted)) }
 {
-    let lines = shown_lines(alloc, set, system, solved.values.as_slice())?;
+    let is_ascending = are_ascending(system.targets);
+    let lines = shown_lines(alloc, set, system, is_ascending, solved.values.as_slice())?;
     let sorted = sort_texts(lines)?;
     let mut ended = end_lines(alloc, sorted)?;
     let count = count_demanded(system.cells, solved.wanted.as_slice());
@@ -36,13 +39,15 @@ pub fn report_lines(
     Ok(ended)
 }
 
-/// The lines of the shown cells, in the order of their places, without their ends.
+/// The lines of the shown cells, in the order of their places, without their ends; it is known of the sites whether they ascend.
 fn shown_lines(
     alloc: Global,
     set: &ClassSet,
     system: &JavaView<'_>,
+    is_ascending: bool,
     values: &[u64],
 ) -> Result<Vec<Vec<u8>>, AllocError>
+    requires order { is_ascending ≡ true → are_ascending system.now.targets.now ≡ true }
     requires cells { All (IsCellOf set.now system.now.targets.now) system.now.cells.now }
     requires shown { All (λ p. cell_from system.now.cells.now 0 p ≢ None) system.now.shown.now }
     requires values { length values.now ≡ total_places system.now.cells.now }
@@ -50,7 +55,7 @@ fn shown_lines(
 {
     let mut lines = Vec::with_capacity(alloc, system.shown.len())?;
     for place in system.shown {
-        let line = shown_line(alloc, set, system, values, *place)?;
+        let line = shown_line(alloc, set, system, is_ascending, values, *place)?;
         lines.push(line)?;
     }
     Ok(lines)
@@ -61,9 +66,11 @@ fn shown_line(
     alloc: Global,
     set: &ClassSet,
     system: &JavaView<'_>,
+    is_ascending: bool,
     values: &[u64],
     place: u32,
 ) -> Result<Vec<u8>, AllocError>
+    requires order { is_ascending ≡ true → are_ascending system.now.targets.now ≡ true }
     requires cells { All (IsCellOf set.now system.now.targets.now) system.now.cells.now }
     requires there { cell_from system.now.cells.now 0 place ≢ None }
     requires values { length values.now ≡ total_places system.now.cells.now }
@@ -72,7 +79,7 @@ fn shown_line(
     let Some((kind, entity, bits)) = system.cells.begins(place) else {
         unreachable!()
     };
-    let methods = cell_targets(system.targets, kind, entity);
+    let methods = cell_targets(system.targets, is_ascending, kind, entity);
     let targets = target_texts(alloc, set, methods)?;
     let words = words_at(values, place, count_places(bits));
     line_of(alloc, set, kind, entity, words, &targets)
@@ -111,27 +118,17 @@ fn line_of(
 /// The methods that a cell has a bit for.
 fn cell_targets<'a>(
     targets: &'a [(SiteId, Items<MethodId>)],
+    is_ascending: bool,
     kind: KindId,
     entity: Entity,
 ) -> &'a [MethodId]
+    requires { is_ascending ≡ true → are_ascending targets.now ≡ true }
     ensures { result.now ≡ cell_targets targets.now kind entity }
 {
     match (kind, entity) {
-        (KindId::Callees, Entity::Site(site)) => targets_of(targets, site),
+        (KindId::Callees, Entity::Site(site)) => targets_of(targets, is_ascending, site),
         _ => &[],
     }
-}
-
-/// The targets of a site, none where none are told.
-fn targets_of<'a>(targets: &'a [(SiteId, Items<MethodId>)], site: SiteId) -> &'a [MethodId]
-    ensures { result.now ≡ targets_of targets.now site }
-{
-    for (other, methods) in targets {
-        if other.method == site.method && other.pc == site.pc {
-            return methods.as_slice();
-        }
-    }
-    &[]
 }
 
 /// The texts of methods.

@@ -1,9 +1,10 @@
 -- Why the system that is built is that of the set and the words.
-use Rattle.std.proofs.Common.{◌≡◌, ℕ, Bool, true, false, cond, ◌||◌, zero, suc, List, [], ◌∷◌, Option, None, Some, slice_get, codes, refl, sym, ap, ◌∙◌}
+use Rattle.std.proofs.Common.{◌≡◌, ℕ, Bool, true, false, cond, ◌||◌, zero, suc, List, [], ◌∷◌, Option, None, Some, Result, Ok, Err, IfErr, slice_get, codes, refl, sym, ap, ◌∙◌}
 use Rattle.std.proofs.lemmas.Slice.Eq.{bytes_eq-Decides}
 use Rattle.std.specs.List.{list_any}
 use Rattle.std.specs.Str.{bytes_eq}
 use Rattle.std.specs.Option.{option_map, option_or}
+use Rattle.std.specs.Result.{OnOk}
 use Rattle.fp_base.specs.Names.{has_name}
 use Rattle.fp_model.specs.declared.class.Class.{Class}
 use Rattle.fp_model.specs.ClassSet.{SetView}
@@ -15,13 +16,23 @@ use Rattle.fp_system.specs.declared.declared.ClassTask.{ClassTask}
 use Rattle.fp_system.specs.declared.fault.SystemFault.{SystemFault}
 use Rattle.fp_system.specs.declared.fault.SystemFault.TheVariants as fault
 use Rattle.fp_system.specs.ClassEquations.{class_tasks}
-use Rattle.fp_system.specs.Faults.{TellsAnalysis, TellsItem, TellsLimit, TellsRoot, TellsSystemRefusal}
+use Rattle.fp_system.specs.declared.words.check.Word.TheVariants as word
+use Rattle.fp_system.specs.Faults.{TellsLimit, TellsSystemRefusal, TellsWord}
 use Rattle.fp_system.specs.Java.{SystemRefusal, UnknownAnalysis, UnknownItem, UnknownRoot, equations_of, first_failing, fixed_words, has_text, is_analysis, is_item, is_kind_text, is_root, java_cells, java_equations, kinds, places_refusal, selected_tasks, shown_flags, shown_from, shows, system_refusal}
 use Rattle.fp_system.specs.Shows.{FindsItems, HasFound, cell_text, marked_flags, marked_from}
 use Rattle.fp_system.specs.Starts.{start_words}
 use Rattle.fp_system.proofs.JavaCellLemmas.{false-if_not}
 use Rattle.fp_system.proofs.ShowLemmas.{firsts-shown, flags-shown}
 use Rattle.fp_system.proofs.StartLemmas.{start_words-selected}
+
+-- what follows of an answer
+pub on_ok : {T E P Q : Type 0} (r : Result T E) → (P → Q) → OnOk r P → OnOk r Q
+on_ok (Ok x) follows is = follows is
+on_ok (Err e) follows is = tt
+
+pub if_err : {T E : Type 0} (r : Result T E) (P Q : E → Type 0) → ((e : E) → P e → Q e) → IfErr r P → IfErr r Q
+if_err (Ok x) P Q follows is = tt
+if_err (Err e) P Q follows is = follows e is
 
 or-right : (b c : Bool) → c ≡ true → (b || c) ≡ true
 or-right true c h = refl
@@ -127,21 +138,21 @@ module _ (set : SetView) (analyses roots show : List (List ℕ)) where
   after_items : analysis ≡ None → root ≡ None → item ≡ None → system_refusal set analyses roots show ≡ places
   after_items h k l = after_roots h k ∙ ap (λ o. first_of None None o places) l
 
-  pub tells_analysis : (f : SystemFault) → TellsAnalysis analysis f → TellsSystemRefusal (system_refusal set analyses roots show) f
+  pub tells_analysis : (f : SystemFault) → TellsWord word.Analysis analysis f → TellsSystemRefusal (system_refusal set analyses roots show) f
   tells_analysis (fault.Analysis text) h = opened ∙ ap (λ o. first_of o root item places) h
   tells_analysis (fault.Root text) h = absurd h
   tells_analysis (fault.Show text) h = absurd h
   tells_analysis (fault.Limit which bound) h = absurd h
   tells_analysis fault.Memory h = tt
 
-  pub tells_root : (f : SystemFault) → analysis ≡ None → TellsRoot root f → TellsSystemRefusal (system_refusal set analyses roots show) f
+  pub tells_root : (f : SystemFault) → analysis ≡ None → TellsWord word.Root root f → TellsSystemRefusal (system_refusal set analyses roots show) f
   tells_root (fault.Analysis text) none h = absurd h
   tells_root (fault.Root text) none h = after_analyses none ∙ ap (λ o. first_of None o item places) h
   tells_root (fault.Show text) none h = absurd h
   tells_root (fault.Limit which bound) none h = absurd h
   tells_root fault.Memory none h = tt
 
-  pub tells_item : (f : SystemFault) → analysis ≡ None → root ≡ None → TellsItem item f → TellsSystemRefusal (system_refusal set analyses roots show) f
+  pub tells_item : (f : SystemFault) → analysis ≡ None → root ≡ None → TellsWord word.Item item f → TellsSystemRefusal (system_refusal set analyses roots show) f
   tells_item (fault.Analysis text) none rooted h = absurd h
   tells_item (fault.Root text) none rooted h = absurd h
   tells_item (fault.Show text) none rooted h = after_roots none rooted ∙ ap (λ o. first_of None None o places) h

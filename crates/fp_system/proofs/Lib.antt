@@ -7,4 +7,5 @@ mod RootLemmas
 mod RowLemmas
 mod ShowLemmas
 mod StartLemmas
+mod SurveyLemmas
 mod TextLemmas

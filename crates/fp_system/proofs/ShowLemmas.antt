@@ -3,9 +3,8 @@ use Rattle.std.proofs.Common.{◌≡◌, ℕ, ◌+◌, Bool, true, false, cond, 
 use Rattle.std.proofs.lemmas.Slice.Eq.{bytes_eq-Decides}
 use Rattle.std.proofs.lemmas.List.{length-replicate, take_more}
 use Rattle.std.proofs.lemmas.List.Concat.{flat_map-append}
-use Rattle.std.proofs.lemmas.List.Folds.{list_any-append}
 use Rattle.std.proofs.lemmas.Option.{slice_get_within, get_or_from_slice_get}
-use Rattle.std.specs.List.{list_any, range_with_len}
+use Rattle.std.specs.List.{range_with_len}
 use Rattle.std.specs.Option.{option_map}
 use Rattle.std.specs.Str.{bytes_eq}
 use Rattle.fp_base.specs.Names.{has_name}
@@ -20,7 +19,7 @@ use Rattle.fp_model.specs.declared.class.Method.{Method}
 use Rattle.fp_model.specs.ClassSet.{fields_of, methods_of}
 use Rattle.fp_cells.specs.declared.kind.Entity.TheVariants.{Class as OfClass, Field as OfField, Method as OfMethod}
 use Rattle.fp_system.specs.Java.{arguments, class_cells, gives_reference, has_code, java_cells, is_concrete, is_no_interface, method_cells, has_text, is_shown, shown_flags, shown_from, shows}
-use Rattle.fp_system.specs.Shows.{AreEntitiesOf, HasFound, KnowsParts, cell_text, is_marked, marked_flags, marked_from}
+use Rattle.fp_system.specs.Shows.{AreEntitiesOf, KnowsParts, cell_text, is_marked, marked_flags, marked_from}
 use Rattle.fp_system.specs.Texts.{AreWithin, part_before}
 use Rattle.fp_system.proofs.JavaCellLemmas.{false-if_not, or-both}
 
@@ -136,13 +135,12 @@ total_places-take [] (suc i) = omega arith
 total_places-take (c ∷ cells) (suc i) = omega (arith, total_places-take cells i)
 
 -- what stands after the cells so far
-pub record ShownSoFar (set : SetView) (items found : List (List ℕ)) (cells : List Cell) (flags : List Bool) (firsts : List ℕ) : Type 0 where
+pub record ShownSoFar (set : SetView) (items : List (List ℕ)) (cells : List Cell) (flags : List Bool) (firsts : List ℕ) : Type 0 where
   pub flags_are : flags ≡ marked_flags set (has_name items) cells
   pub firsts_are : firsts ≡ marked_from set (has_name items) 0 cells
-  pub found_are : HasFound set items found cells
 
-pub flags_below : (set : SetView) (items found : List (List ℕ)) (cells : List Cell) (i : ℕ) (flags : List Bool) (firsts : List ℕ) → ShownSoFar set items found (take i cells) flags firsts → length flags ≤ total_places cells
-flags_below set items found cells i flags firsts h =
+pub flags_below : (set : SetView) (items : List (List ℕ)) (cells : List Cell) (i : ℕ) (flags : List Bool) (firsts : List ℕ) → ShownSoFar set items (take i cells) flags firsts → length flags ≤ total_places cells
+flags_below set items cells i flags firsts h =
     let all : length flags ≡ total_places (take i cells) = ap length h.flags_are ∙ length-flags set (has_name items) (take i cells) in
     omega (arith, all, total_places-take cells i)
 
@@ -156,13 +154,12 @@ whole_cell : (o : Option Cell) (told : KindId × Entity × ℕ) → option_map (
 whole_cell None told h = absurd (cc)
 whole_cell (Some c) told h = record { cell = c; at = refl; told = cc }
 
-pub shown_step : (set : SetView) (items found later : List (List ℕ)) (cells : List Cell) (i : ℕ) (told : KindId × Entity × ℕ) (shown : Bool) (flags more_flags : List Bool) (firsts more_firsts : List ℕ) (end count : ℕ) →
+pub shown_step : (set : SetView) (items : List (List ℕ)) (cells : List Cell) (i : ℕ) (told : KindId × Entity × ℕ) (shown : Bool) (flags more_flags : List Bool) (firsts more_firsts : List ℕ) (end count : ℕ) →
     option_map (λ c. (c.kind, c.entity, c.bits)) (slice_get cells i) ≡ Some told →
     shown ≡ is_marked set (has_name items) (record { kind = told.0; entity = told.1; bits = 0 }) →
-    ((item : List ℕ) → has_name items item ≡ true → has_name later item ≡ (has_name found item || bytes_eq item (cell_text set (record { kind = told.0; entity = told.1; bits = 0 })))) →
     count ≡ length flags → end ≡ count + places_of told.2 → more_flags ≡ take end flags ++ replicate (end - count) shown → more_firsts ≡ firsts ++ cond shown (count ∷ []) [] →
-    ShownSoFar set items found (take i cells) flags firsts → ShownSoFar set items later (take (i + 1) cells) more_flags more_firsts
-shown_step set items found later cells i told shown flags more_flags firsts more_firsts end count here marked noted counts ends resized pushed h =
+    ShownSoFar set items (take i cells) flags firsts → ShownSoFar set items (take (i + 1) cells) more_flags more_firsts
+shown_step set items cells i told shown flags more_flags firsts more_firsts end count here marked counts ends resized pushed h =
     let r = whole_cell (slice_get cells i) told here in
     let has = has_name items in
     let longer : take (i + 1) cells ≡ take i cells ++ r.cell ∷ [] = take_more cells i r.cell (slice_get_within cells i r.cell r.at) ∙ ap (λ v. take i cells ++ v ∷ []) (get_or_from_slice_get cells i r.cell r.cell r.at) in
@@ -184,12 +181,6 @@ shown_step set items found later cells i told shown flags more_flags firsts more
           ∙ ap (λ k. marked_from set has 0 (take i cells) ++ cond (is_marked set has r.cell) (k ∷ []) []) place
           ∙ sym (marked_from-push set has 0 (take i cells) r.cell)
           ∙ ap (marked_from set has 0) (sym longer);
-      found_are = λ item there.
-          noted item there ∙ ap (λ b. b || bytes_eq item (cell_text set (record { kind = told.0; entity = told.1; bits = 0 }))) (h.found_are item there)
-          ∙ ap (λ (t : KindId × Entity × ℕ). list_any (λ cell. bytes_eq item (cell_text set cell)) (take i cells) || bytes_eq item (cell_text set (record { kind = t.0; entity = t.1; bits = 0 }))) (sym r.told)
-          ∙ ap (λ b. list_any (λ cell. bytes_eq item (cell_text set cell)) (take i cells) || b) (sym (or-false (bytes_eq item (cell_text set r.cell))))
-          ∙ sym (list_any-append (λ cell. bytes_eq item (cell_text set cell)) (take i cells) (r.cell ∷ []))
-          ∙ ap (list_any (λ cell. bytes_eq item (cell_text set cell))) (sym longer);
     }
 
 -- ---- the entities of cells

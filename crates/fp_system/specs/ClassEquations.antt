@@ -42,11 +42,12 @@ abbrev pub parent_bit : Option ℕ → (ℕ → ℕ) → ℕ
 parent_bit None a = 0
 parent_bit (Some place) a = bit_and (a place) 1
 
--- The equation of a class: it is open by itself, or where its superclass is. It uses the superclass's place in either case.
+-- The equation of a class: it is open by itself, or where its superclass is. It uses the superclass's place in either case, where
+-- that is in the set.
 abbrev pub declared_task : ClassTask → Task
 declared_task k = record {
   start = Lazy;
-  asks = 1;
+  asks = if is_some k.parent then 1 else 0;
   gives = 1;
   makes = λ p. k.place == p;
   uses = λ a p. is_number p k.parent;

@@ -1,9 +1,12 @@
 -- What a fault tells of why there is no system.
-use Rattle.std.specs.Prelude.{◌≡◌, ℕ, List, Option, Some, string_bytes}
+use Rattle.std.specs.Prelude.{◌≡◌, ℕ, Bool, ◌||◌, List, Option, Some, string_bytes}
+use Rattle.fp_base.specs.Names.{has_name}
 use Rattle.fp_model.specs.declared.limit.LimitName.TheVariants as limit
 use Rattle.fp_system.specs.declared.fault.SystemFault.{SystemFault}
 use Rattle.fp_system.specs.declared.fault.SystemFault.TheVariants as fault
-use Rattle.fp_system.specs.Java.{SystemRefusal, UnknownAnalysis, UnknownRoot, UnknownItem, TooManyPlaces}
+use Rattle.fp_system.specs.declared.words.check.Word.{Word}
+use Rattle.fp_system.specs.declared.words.check.Word.TheVariants as word
+use Rattle.fp_system.specs.Java.{SystemRefusal, UnknownAnalysis, UnknownRoot, UnknownItem, TooManyPlaces, is_analysis, is_kind_text}
 use Rattle.fp_system.specs.Limits.{most_places}
 
 -- the fault tells why there is no system; want of memory tells nothing
@@ -14,22 +17,19 @@ TellsSystemRefusal refusal (fault.Show item) = refusal ≡ Some (UnknownItem (st
 TellsSystemRefusal refusal (fault.Limit name bound) = (refusal ≡ Some TooManyPlaces) × (name ≡ limit.Places) × (bound ≡ most_places)
 TellsSystemRefusal refusal fault.Memory = Unit {0}
 
--- the fault tells the first name that is no analysis, and the first item that is neither a kind nor a cell
-abbrev pub TellsAnalysis : Option (List ℕ) → SystemFault → Type 0
-TellsAnalysis first (fault.Analysis name) = first ≡ Some (string_bytes name)
-TellsAnalysis first fault.Memory = Unit {0}
-TellsAnalysis first _ = ⊥
+-- a word of a sort is known, by the roots or the items that name something
+abbrev pub is_known : Word → List (List ℕ) → List ℕ → Bool
+is_known word.Analysis found text = is_analysis text
+is_known word.Root found text = has_name found text
+is_known word.Item found text = is_kind_text text || has_name found text
 
--- the fault tells the first root that is no method with code
-abbrev pub TellsRoot : Option (List ℕ) → SystemFault → Type 0
-TellsRoot first (fault.Root root) = first ≡ Some (string_bytes root)
-TellsRoot first fault.Memory = Unit {0}
-TellsRoot first _ = ⊥
-
-abbrev pub TellsItem : Option (List ℕ) → SystemFault → Type 0
-TellsItem first (fault.Show item) = first ≡ Some (string_bytes item)
-TellsItem first fault.Memory = Unit {0}
-TellsItem first _ = ⊥
+-- the fault tells the first word of a sort that isn't
+abbrev pub TellsWord : Word → Option (List ℕ) → SystemFault → Type 0
+TellsWord word.Analysis first (fault.Analysis name) = first ≡ Some (string_bytes name)
+TellsWord word.Root first (fault.Root root) = first ≡ Some (string_bytes root)
+TellsWord word.Item first (fault.Show item) = first ≡ Some (string_bytes item)
+TellsWord sort first fault.Memory = Unit {0}
+TellsWord sort first _ = ⊥
 
 -- the fault tells that there are too many places
 abbrev pub TellsLimit : Option SystemRefusal → SystemFault → Type 0

@@ -7,5 +7,6 @@ pub mod Roots
 pub mod Rows
 pub mod Shows
 pub mod Starts
+pub mod Surveys
 pub mod Systems
 pub mod Texts

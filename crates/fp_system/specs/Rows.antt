@@ -1,5 +1,5 @@
 -- Why the equations of classes are lawful.
-use Rattle.std.specs.Prelude.{◌≡◌, ◌≢◌, ◌==◌, ◌<◌, ◌≤◌, ◌^◌, ℕ, Bool, true, false, not, IsTrue, List, [], ◌∷◌, length, slice_get, bit_and, bit_or, Option, Some, None, if◌then◌else◌, refl}
+use Rattle.std.specs.Prelude.{◌≡◌, ◌≢◌, ◌==◌, ◌<◌, ◌≤◌, ◌^◌, ℕ, Bool, true, false, not, IsTrue, List, [], ◌∷◌, length, slice_get, bit_and, bit_or, is_some, Option, Some, None, if◌then◌else◌, refl}
 use Rattle.std.specs.Option.{option_map_or}
 use Rattle.std.proofs.Common.{arith, ap, subst, sym, zero, suc}
 use Rattle.std.proofs.lemmas.Bool.{not-true}
@@ -57,7 +57,7 @@ is_number-is : (parent : Option ℕ) (p : ℕ) → IsTrue (is_number p parent) �
 is_number-is None p h = cc
 is_number-is (Some q) p h = ap Some (same-place q p h)
 
-number-few : (parent : Option ℕ) (n : ℕ) → count_below (λ p. is_number p parent) n ≤ 1
+number-few : (parent : Option ℕ) (n : ℕ) → count_below (λ p. is_number p parent) n ≤ (if is_some parent then 1 else 0)
 number-few None n = omega (arith, count_below-none (λ p. false) n (λ p _. refl))
 number-few (Some q) n = count-listed (λ p. q == p) (q ∷ []) n (λ p h. left (q == p) false h)
 

@@ -1,22 +1,20 @@
 //! The cells of a set of classes.
 ghost use Rattle.std.specs.Prelude.{◌≡◌, ◌≤◌, ◌+◌, ◌++◌, ◌∷◌, [], false, if◌then◌else◌, IfOk, OnOk};
 ghost use Rattle.fp_model.specs.ClassSet.{methods_of};
-ghost use Rattle.fp_cells.specs.Cells.{has_cell, places_of};
+ghost use Rattle.fp_cells.specs.Cells.{has_cell};
 ghost use Rattle.fp_system.specs.Java.{arguments, class_cells, field_cells, is_reference, java_cells, lacks, method_cells};
 ghost use Rattle.fp_system.specs.Kinds.{AreBefore, method_bits, method_has, rank};
 
-use fp_cells::{Cells, Entity, KindId};
+use fp_cells::{Cells, Entity, KindId, count_places};
+use fp_model::flags::is_static;
 use fp_model::{Class, ClassId, ClassSet, Kind, Method, MethodId};
 use std::alloc::{AllocError, Global};
 
 /// The access flags of classes that have no instances of their own: ACC_INTERFACE and ACC_ABSTRACT (JVMS SE 21 section 4.1).
-const NOT_CONCRETE: u16 = 0x0600;
+pub const NOT_CONCRETE: u16 = 0x0600;
 
 /// The access flag of interfaces: ACC_INTERFACE.
-const INTERFACE: u16 = 0x0200;
-
-/// The access flag of methods that have no receiver: ACC_STATIC (JVMS SE 21 section 4.6).
-const STATIC: u16 = 0x0008;
+pub const INTERFACE: u16 = 0x0200;
 
 /// The most parameters for which the bits of a method's cells have numbers. A class file has far fewer.
 const MOST_PARAMETERS: usize = 0xFFFF_0000;
@@ -126,8 +124,8 @@ fn add_method_cell(
     add_cell(kind, Entity::Method(id), bits, cells)
 }
 
-// Whether the method has a cell of the kind.
-fn has_method_cell(method: &Method, kind: KindId) -> bool
+/// Whether the method has a cell of the kind.
+pub fn has_method_cell(method: &Method, kind: KindId) -> bool
     ensures { result ≡ method_has kind method.now }
 {
     match kind {
@@ -147,8 +145,8 @@ fn is_reference(kind: Option<Kind>) -> bool
     }
 }
 
-// How many bits the method's cell of the kind has.
-fn count_bits(method: &Method, kind: KindId) -> Result<u32, AllocError>
+/// How many bits the method's cell of the kind has.
+pub fn count_bits(method: &Method, kind: KindId) -> Result<u32, AllocError>
     ensures { IfOk result (λ bits. bits ≡ method_bits kind method.now) }
 {
     match kind {
@@ -167,7 +165,7 @@ fn count_arguments(method: &Method) -> Result<u32, AllocError>
     if count > MOST_PARAMETERS {
         return Err(AllocError);
     }
-    if method.flags & STATIC != 0 {
+    if is_static(method.flags) {
         Ok(count as u32)
     } else {
         Ok(count as u32 + 1)
@@ -184,11 +182,4 @@ fn add_cell(kind: KindId, entity: Entity, bits: u32, cells: &mut Cells) -> Resul
     }
     cells.add(kind, entity, bits)?;
     Ok(())
-}
-
-/// How many places a value of so many bits takes.
-pub fn count_places(bits: u32) -> u32
-    ensures { result ≡ places_of bits }
-{
-    bits.div_ceil(64).max(1)
 }

@@ -2,11 +2,14 @@
 ghost use Rattle.std.specs.Prelude.{◌<◌, ◌^◌, length};
 ghost use Rattle.fp_system.specs.Rows.{AreRowsOver};
 
-use crate::evaluate::evaluate;
-use crate::rows::class_rows;
+mod evaluate;
+mod rows;
+
+use evaluate::{bound_of, evaluate};
 use fp_cells::Cells;
 use fp_eqs::{Analysis, Ask, Bound, Gives, Start};
 use fp_model::ClassSet;
+use rows::class_rows;
 use sqlite_items::Items;
 use std::alloc::{AllocError, Global};
 
@@ -79,8 +82,8 @@ impl Analysis for DeclaredTasks {
         Start::Lazy
     }
 
-    fn bound(&self, _task: u32) -> Bound {
-        Bound { asks: 1, gives: 1 }
+    fn bound(&self, task: u32) -> Bound {
+        bound_of(self.rows.as_slice()[task as usize])
     }
 
     fn maker(&self, place: u32, k: u32) -> Option<u32> {
@@ -90,20 +93,5 @@ impl Analysis for DeclaredTasks {
 
     fn eval<A: Ask>(&self, task: u32, ask: &mut A, give: &mut Gives) {
         evaluate(self.rows.as_slice()[task as usize], ask, give)
-    }
-}
-
-#[cfg(test)]
-mod tests {
-    use super::*;
-
-    fn count_tasks<X: Analysis>(analysis: &X) -> u32 {
-        analysis.tasks()
-    }
-
-    #[test]
-    fn where_no_class_is_there_is_no_task(rt: HostRuntime) {
-        let none = DeclaredTasks::none(rt.alloc(), 3);
-        assert_eq!(rt; count_tasks(&none), 0);
     }
 }

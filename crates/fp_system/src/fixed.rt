@@ -6,9 +6,8 @@ ghost use Rattle.fp_cells.specs.Cells.{places_of};
 ghost use Rattle.fp_system.specs.Java.{analysis_of, full_word};
 ghost use Rattle.fp_system.specs.Starts.{start_words, words_of};
 
-use crate::cells::count_places;
 use fp_base::Names;
-use fp_cells::{Cells, KindId};
+use fp_cells::{Cells, KindId, count_places};
 use std::alloc::{AllocError, Global};
 
 /// The words that the places of the cells start with: none of the bits of a kind whose analysis is selected, and all bits of any

@@ -3,23 +3,15 @@
 
 mod build;
 mod cells;
-mod check;
 mod declared;
-mod evaluate;
 mod fault;
 mod fixed;
-mod lengths;
 mod limits;
-mod roots;
-mod rows;
-mod shown;
 mod start;
+mod survey;
 mod system;
-#[cfg(test)]
-mod tests;
-mod texts;
+mod words;
 
-pub use declared::{ClassTask, DeclaredTasks};
 pub use fault::SystemFault;
 pub use limits::check_limits;
 pub use system::JavaSystem;

@@ -27,25 +27,3 @@ pub fn check_limits(places: u64, uses: u64, gives: u64) -> Result<(), (LimitName
     }
     Ok(())
 }
-
-#[cfg(test)]
-mod tests {
-    use super::*;
-
-    #[test]
-    fn each_bound_is_the_last_that_passes(rt: HostRuntime) {
-        assert_eq!(rt; check_limits(1_048_576, 16_777_216, 16_777_216), Ok(()));
-        assert_eq!(rt;
-            check_limits(1_048_577, 16_777_217, 0),
-            Err((LimitName::Places, 1_048_576))
-        );
-        assert_eq!(rt;
-            check_limits(0, 16_777_217, 16_777_217),
-            Err((LimitName::Uses, 16_777_216))
-        );
-        assert_eq!(rt;
-            check_limits(0, 0, 16_777_217),
-            Err((LimitName::Gives, 16_777_216))
-        );
-    }
-}

@@ -8,7 +8,7 @@ ghost use Rattle.fp_system.specs.Java.{fixed_words, java_cells, selected_tasks};
 
 use crate::declared::DeclaredTasks;
 use crate::fixed::start_words;
-use crate::texts::index_texts;
+use crate::words::texts::index_texts;
 use fp_base::Names;
 use fp_cells::Cells;
 use fp_model::ClassSet;

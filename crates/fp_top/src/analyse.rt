@@ -17,7 +17,7 @@ use fp_base::{ClassDir, Sink};
 use fp_report::PrintFault;
 use std::alloc::Global;
 
-/// Analyses the class file below a directory as the words ask, and writes the report of the least solution of the selected
+/// Analyses the class files below a directory as the words ask, and writes the report of the least solution of the selected
 /// equations to `out`. A refusal writes one text to `err` and leaves `out` as it was. The call always returns.
 pub fn analyse_one<D: ClassDir, S: Sink>(
     alloc: Global,

@@ -8,8 +8,6 @@ mod refusal;
 mod report;
 mod solve;
 mod status;
-#[cfg(test)]
-mod tests;
 mod words;
 mod write;
 

@@ -1,7 +1,7 @@
 use sqlite_items::Items;
 
 /// What a run is asked for. Texts are the words, as they were given.
-#[derive(Debug, Drop)]
+#[derive(Drop)]
 pub struct Job {
     /// The directory of the class files.
     pub dir: String,
@@ -22,7 +22,7 @@ pub struct Job {
 }
 
 /// What the words ask for.
-#[derive(Debug, Drop)]
+#[derive(Drop)]
 pub enum Order {
     /// A run over the class files below a directory.
     Run(Job),

@@ -16,6 +16,3 @@ pub use law::options_may_change_places;
 pub use list::list_items;
 pub use number::{number_between, workers_of};
 pub use read::read_words;
-
-#[cfg(test)]
-mod tests;

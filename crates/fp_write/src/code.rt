@@ -6,10 +6,9 @@ ghost use Rattle.fp_model.specs.declared.raw.attribute.RawCode.{out-RawCode};
 
 use crate::numbers::{low, put_count, put_u8, put_u16, put_u32};
 use crate::unread::{put_inner_attributes, size_of_inner_attributes};
+use fp_model::opcode::WIDE;
 use fp_model::{CatchRow, RawCode, RawIns};
 use std::alloc::AllocError;
-
-const WIDE: u8 = 196;
 
 /// What a `Code` attribute holds, behind its length (section 4.7.3).
 pub fn put_code(out: &mut Vec<u8>, code: &RawCode) -> Result<(), AllocError>

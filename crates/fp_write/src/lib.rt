@@ -10,6 +10,3 @@ mod speller;
 mod unread;
 
 pub use speller::spell;
-
-#[cfg(test)]
-mod tests;

@@ -159,11 +159,18 @@ mod tests {
             assert_eq!(rt; narrow.taken.get(), taken, "after {piece}");
         }
         assert_eq!(rt; output.faults, 1);
+    }
 
-        let mut fault_output = HostSink::fault_output(&rt);
+    #[test]
+    fn the_fault_output_takes_text_alone(rt: HostRuntime) {
         assert_eq!(rt; HostSink::output(&rt).put(b"output\n"), Ok(()));
-        assert_eq!(rt; fault_output.put(b"fault output\n"), Ok(()));
-        assert_eq!(rt; fault_output.put(&[0xff]), Err(SinkFault::Failed));
-        assert_eq!(rt; fault_output.faults, 1);
+        let mut fault_output = HostSink::fault_output(&rt);
+        for (piece, answer, faults) in [
+            (b"fault output\n".as_slice(), Ok(()), 0),
+            (b"\xff", Err(SinkFault::Failed), 1),
+        ] {
+            assert_eq!(rt; fault_output.put(piece), answer);
+            assert_eq!(rt; fault_output.faults, faults);
+        }
     }
 }

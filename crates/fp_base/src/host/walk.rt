@@ -157,3 +157,102 @@ fn keep(walk: &mut Walk, root: &str, path: String) -> Result<(), HostFault>
     }
     Ok(())
 }
+
+#[cfg(test)]
+mod tests {
+    use super::*;
+    use std::alloc::Allocator;
+    use std::fs::{File, Metadata, OpenOptions};
+    use std::test::Fail;
+
+    const FOLDER: &str = "host_walk_test";
+
+    /// How many class files a walk finds.
+    fn count<R: Files>(alloc: Global, rt: &R, root: &str) -> Result<usize, HostFault> {
+        Ok(class_files(alloc, rt, root)?.len())
+    }
+
+    #[test]
+    fn a_walk_goes_no_deeper_than_its_bound(rt: HostRuntime) -> Result<(), Fail> {
+        let alloc = rt.alloc();
+        let _ = fs::remove_dir_all(&rt, FOLDER);
+        let mut path = String::from_str(alloc, FOLDER)?;
+        for (deeper, expected) in [(MAX_DEPTH, Ok(1)), (1, Err(HostFault::Failed))] {
+            for _ in 0..deeper {
+                path.push_str("/d")?;
+            }
+            fs::create_dir_all(&rt, path.as_str())?;
+            fs::write(&rt, join(alloc, path.as_str(), "A.class")?.as_str(), "a")?;
+            assert_eq!(rt; count(alloc, &rt, FOLDER), expected, "at {path}");
+        }
+        fs::remove_dir_all(&rt, FOLDER)?;
+        Ok(())
+    }
+
+    /// A system whose directories have these names, each with a 0 behind it, all of them of files.
+    #[derive(Drop)]
+    struct Named {
+        names: &'static [u8],
+    }
+
+    fn unsupported<T>() -> io::Result<T> {
+        Err(io::Error::from(ErrorKind::Unsupported))
+    }
+
+    impl Files for Named {
+        type File = File;
+
+        type Dir = &'static [u8];
+
+        fn open_file(&self, _how: &OpenOptions, _path: &str) -> io::Result<File> {
+            unsupported()
+        }
+
+        fn open_dir(&self, _path: &str) -> io::Result<&'static [u8]> {
+            Ok(self.names)
+        }
+
+        fn metadata(&self, _path: &str) -> io::Result<Metadata> {
+            Ok(Metadata::of_file(0))
+        }
+
+        fn symlink_metadata(&self, _path: &str) -> io::Result<Metadata> {
+            Ok(Metadata::of_file(0))
+        }
+
+        fn copy(&self, _from: &str, _to: &str) -> io::Result<u64> {
+            unsupported()
+        }
+
+        fn rename(&self, _from: &str, _to: &str) -> io::Result<()> {
+            unsupported()
+        }
+
+        fn remove_file(&self, _path: &str) -> io::Result<()> {
+            unsupported()
+        }
+
+        fn create_dir(&self, _path: &str) -> io::Result<()> {
+            unsupported()
+        }
+
+        fn remove_dir(&self, _path: &str) -> io::Result<()> {
+            unsupported()
+        }
+
+        fn remove_dir_all<B: Allocator>(&self, _alloc: B, _path: &str) -> io::Result<()> {
+            unsupported()
+        }
+    }
+
+    #[test]
+    fn a_name_that_is_no_text_is_a_fault(rt: HostRuntime) {
+        for (names, expected) in [
+            (b"".as_slice(), Ok(0)),
+            (b"A.class\0B.txt\0C.class\0", Ok(2)),
+            (b"A.class\0\xff.class\0", Err(HostFault::Failed)),
+        ] {
+            assert_eq!(rt; count(rt.alloc(), &Named { names }, "d"), expected);
+        }
+    }
+}

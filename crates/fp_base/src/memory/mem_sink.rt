@@ -9,7 +9,7 @@ use std::alloc::Global;
 use std::marker::Model;
 
 /// A sink that keeps its bytes in memory, and fails at the calls that its maker names.
-#[derive(Debug, Drop)]
+#[derive(Drop)]
 pub struct MemSink {
     bytes: Vec<u8>,
     failing: Vec<(u32, u32)>,
@@ -104,52 +104,11 @@ impl Sink for MemSink {
         let kept = kept_bytes(&self.failing, self.calls);
         self.calls = self.calls.saturating_add(1);
         let Some(kept) = kept else {
-            return match self.bytes.extend_from_slice(piece) {
-                Ok(()) => Ok(()),
-                Err(_) => Err(SinkFault::Memory),
-            };
+            self.bytes.extend_from_slice(piece)?;
+            return Ok(());
         };
-        if self
-            .bytes
-            .extend_from_slice(first_part(piece, kept))
-            .is_err()
-        {
-            return Err(SinkFault::Memory);
-        }
+        self.bytes.extend_from_slice(first_part(piece, kept))?;
         self.faults = self.faults.saturating_add(1);
         Err(SinkFault::Failed)
-    }
-}
-
-#[cfg(test)]
-mod tests {
-    use super::*;
-    use std::test::Fail;
-
-    #[test]
-    fn failing_puts_keep_their_part(rt: HostRuntime) -> Result<(), Fail> {
-        let alloc = rt.alloc();
-        let failing = vec![in alloc; (1, 2), (3, 9)]?;
-        assert!(rt; has_distinct_calls(&failing));
-        let mut sink = MemSink::new(alloc, failing);
-        let puts: [(&str, Result<(), SinkFault>, &str); 5] = [
-            ("ab", Ok(()), "ab"),
-            ("cde", Err(SinkFault::Failed), "abcd"),
-            ("", Ok(()), "abcd"),
-            ("fg", Err(SinkFault::Failed), "abcdfg"),
-            ("h", Ok(()), "abcdfgh"),
-        ];
-        for (piece, answer, told) in puts {
-            assert_eq!(rt; sink.put(piece.as_bytes()), answer, "at {piece}");
-            assert_eq!(rt; sink.bytes(), told.as_bytes(), "after {piece}");
-        }
-        Ok(())
-    }
-
-    #[test]
-    fn calls_in_two_pairs_are_told(rt: HostRuntime) {
-        assert!(rt; has_distinct_calls(&[]));
-        assert!(rt; has_distinct_calls(&[(0, 1), (2, 1), (1, 1)]));
-        assert!(rt; !has_distinct_calls(&[(0, 1), (2, 1), (0, 2)]));
     }
 }

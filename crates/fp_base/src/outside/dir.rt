@@ -3,9 +3,11 @@ ghost use Rattle.std.specs.Option.{option_map};
 ghost use Rattle.std.specs.List.{AllPass};
 ghost use Rattle.fp_base.specs.Files.{File, bytes_at, class_paths, distinct_paths, first_bytes, is_class_file, texts};
 ghost use Rattle.fp_base.specs.Calls.{Call, HasDirCause};
+ghost use Rattle.fp_base.specs.Counters.{one_more};
+ghost use Rattle.fp_base.specs.declared.outside.dir.DirFault.TheVariants.{Memory};
 ghost use Rattle.fp_base.specs.Calls.Call.{Listing, Reading};
 
-use std::alloc::Global;
+use std::alloc::{AllocError, Global};
 
 /// How many bytes of a file a read gives at most: one more than a class file may have.
 pub const READ_LIMIT: usize = 4_194_305;
@@ -19,6 +21,14 @@ pub enum DirFault {
     Failed,
     /// Memory ran out.
     Memory,
+}
+
+impl From<AllocError> for DirFault {
+    ghost from_gives = { λ _ fault. fault ≡ Memory };
+
+    fn from(_: AllocError) -> DirFault {
+        DirFault::Memory
+    }
 }
 
 /// Directories with class files below them. An implementation may tell its files: then its answers are theirs.
@@ -39,6 +49,9 @@ pub trait ClassDir {
     // The calls that failed, the oldest first.
     ghost failed: { Self → List Call };
 
+    // How often a file was asked for. The count stands still at the last value of a `u64`.
+    ghost readings: { Self → ℕ };
+
     /// The paths below `path` that end in `.class`, each with `path` and `/` before it, in any order. Where files
     /// are told, these are exactly the told paths of this form, each once. Never [`DirFault::Absent`].
     fn list(&mut self, alloc: Global, path: &str) -> Result<Vec<String>, DirFault>
@@ -50,7 +63,8 @@ pub trait ClassDir {
         ensures listed { IfOk result (λ paths. listed self.new ≡ texts paths.items) }
         ensures kept { OnErr result (listed self.new ≡ listed self.old) }
         ensures present { IsErrOf result DirFault.Absent → ⊥ }
-        ensures cause { HasDirCause (failed self.old) (failed self.new) (Listing path.now) result };
+        ensures cause { HasDirCause (failed self.old) (failed self.new) (Listing path.now) result }
+        ensures readings { readings self.new ≡ readings self.old };
 
     /// The bytes of the file at `path`, or its first 4,194,305 bytes where it is longer.
     fn read(&mut self, alloc: Global, path: &str) -> Result<Vec<u8>, DirFault>
@@ -62,5 +76,6 @@ pub trait ClassDir {
         ensures absent { IsErrOf result DirFault.Absent
             → IsTrue (tells self.old) × (bytes_at (files self.old) path.now ≡ None) }
         ensures absent_is_no_fault { IsErrOf result DirFault.Absent → failed self.new ≡ failed self.old }
-        ensures cause { HasDirCause (failed self.old) (failed self.new) (Reading path.now) result };
+        ensures cause { HasDirCause (failed self.old) (failed self.new) (Reading path.now) result }
+        ensures readings { readings self.new ≡ one_more (readings self.old) };
 }

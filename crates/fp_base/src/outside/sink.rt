@@ -1,6 +1,9 @@
 ghost use Rattle.std.specs.Prelude.{◌≡◌, ℕ, List, Option, OnOk, OnErr, IsErrOf};
 ghost use Rattle.std.specs.Io.KnownBytes.{append_known};
 ghost use Rattle.fp_base.specs.Faults.{AppendsPart, HasSinkCause};
+ghost use Rattle.fp_base.specs.declared.outside.sink.SinkFault.TheVariants.{Memory};
+
+use std::alloc::AllocError;
 
 /// Why a [`Sink`] didn't take a piece whole.
 #[derive(Debug, Clone, Copy, PartialEq, Eq)]
@@ -9,6 +12,14 @@ pub enum SinkFault {
     Failed,
     /// Memory ran out. Nothing of the piece was taken.
     Memory,
+}
+
+impl From<AllocError> for SinkFault {
+    ghost from_gives = { λ _ fault. fault ≡ Memory };
+
+    fn from(_: AllocError) -> SinkFault {
+        SinkFault::Memory
+    }
 }
 
 /// A place that takes bytes in order. An implementation may tell what it has taken.

@@ -1,15 +1,20 @@
-ghost use Rattle.std.specs.Prelude.{◌≡◌, ◌<◌, ◌&&◌, ◌||◌, ℕ, Contains, IfOk, IsTrue, length, slice_index};
-ghost use Rattle.fp_eqs.specs.Answers.{asked};
-ghost use Rattle.fp_eqs.specs.Demand.{demand, demand_round, is_started};
+ghost use Rattle.std.specs.Prelude.{◌≡◌, ◌<◌, ℕ, false, IfOk, IsTrue, length, slice_index};
+ghost use Rattle.fp_eqs.specs.Demand.{demand, is_started};
+ghost use Rattle.fp_eqs.specs.Equations.{IsIn};
+ghost use Rattle.fp_eqs.specs.Makers.{is_lazy, is_maker};
+ghost use Rattle.fp_eqs.specs.Needs.{AreLater, AreNeeds};
 ghost use Rattle.fp_eqs.specs.Solution.{solution};
 ghost use Rattle.fp_eqs.specs.Solved.{flag_at};
 
 use crate::plain::known::evaluate;
-use crate::plain::started::starts;
+use crate::plain::needs::Needs;
+use crate::start::Start;
 use crate::system::System;
 use std::alloc::{AllocError, Global};
 
 /// Whether each place is demanded, where the values are those of the least solution.
+///
+/// Each task is started once and each wanted place is looked at once.
 pub fn wanted_places<S: System>(
     alloc: Global,
     system: &S,
@@ -20,90 +25,138 @@ pub fn wanted_places<S: System>(
     ensures long { IfOk result (λ v. length v.items ≡ (S.equations system.now).places) }
     ensures demand { IfOk result (λ v. flag_at v.items ≡ demand (S.equations system.now)) }
 {
-    let mut wanted = shown_places(alloc, system)?;
-    for _round in 0..u64::from(system.places()) + 1 {
-        let next = next_wanted(alloc, system, values, &wanted)?;
-        if are_same(&next, &wanted) {
-            return Ok(wanted);
+    let mut needs = Needs::new(alloc, system.places(), system.tasks())?;
+    want_shown(system, &mut needs)?;
+    start_eager(alloc, system, values, &mut needs)?;
+    for at in 0..system.places() as usize {
+        if needs.found.len() <= at {
+            return Ok(needs.wanted);
         }
-        wanted = next;
+        let place = needs.found[at];
+        start_makers(alloc, system, values, place, &mut needs)?;
     }
-    Ok(wanted)
+    Ok(needs.wanted)
 }
 
-/// Whether two lists hold the same flags.
-fn are_same(first: &[bool], second: &[bool]) -> bool
-    ensures { IsTrue result → first.now ≡ second.now }
+/// Wants each place that is shown.
+fn want_shown<S: System>(system: &S, needs: &mut Needs) -> Result<(), AllocError>
+    requires needs { AreNeeds (S.equations system.now) needs.old }
+    ensures needs { IfOk result (λ _. AreNeeds (S.equations system.now) needs.new) }
+    ensures shown { IfOk result (λ _. IsIn (S.equations system.now).shown (flag_at needs.new.wanted.items)) }
 {
-    first == second
-}
-
-/// Whether each place is shown.
-fn shown_places<S: System>(alloc: Global, system: &S) -> Result<Vec<bool>, AllocError>
-    ensures long { IfOk result (λ v. length v.items ≡ (S.equations system.now).places) }
-    ensures shown { IfOk result (λ v. flag_at v.items ≡ (S.equations system.now).shown) }
-{
-    let mut shown = Vec::new(alloc);
     for place in 0..system.places() {
-        shown.push(system.shown(place))?;
-    }
-    Ok(shown)
-}
-
-/// The places wanted after one round: those before it, and those that the tasks which they start
-/// use.
-fn next_wanted<S: System>(
-    alloc: Global,
-    system: &S,
-    values: &[u64],
-    wanted: &[bool],
-) -> Result<Vec<bool>, AllocError>
-    requires long { length values.now ≡ (S.equations system.now).places }
-    requires flags { length wanted.now ≡ (S.equations system.now).places }
-    requires solution { slice_index values.now ≡ solution (S.equations system.now) }
-    ensures long { IfOk result (λ v. length v.items ≡ (S.equations system.now).places) }
-    ensures round { IfOk result (λ v. flag_at v.items ≡ demand_round (S.equations system.now) (flag_at wanted.now)) }
-{
-    let mut next = Vec::from_slice(alloc, wanted)?;
-    for task in 0..system.tasks() {
-        want_used(alloc, system, values, wanted, task, &mut next)?;
-    }
-    Ok(next)
-}
-
-/// Marks the places that a task uses, if the wanted ones start it.
-fn want_used<S: System>(
-    alloc: Global,
-    system: &S,
-    values: &[u64],
-    wanted: &[bool],
-    task: u32,
-    next: &mut Vec<bool>,
-) -> Result<(), AllocError>
-    requires task { task < (S.equations system.now).tasks }
-    requires long { length values.now ≡ (S.equations system.now).places }
-    requires flags { length wanted.now ≡ (S.equations system.now).places }
-    requires room { length next.old.items ≡ (S.equations system.now).places }
-    ensures long { IfOk result (λ _. length next.new.items ≡ length next.old.items) }
-    ensures used { let e = S.equations system.now in
-        IfOk result (λ _. (p : ℕ) → flag_at next.new.items p ≡
-        (flag_at next.old.items p || is_started e (flag_at wanted.now) task && (e.task task).uses (slice_index values.now) p)) }
-{
-    if starts(system, wanted, task) {
-        let evaluation = evaluate(alloc, system, values, task)?;
-        mark_asked(next, &evaluation.answers);
+        want_if_shown(system, place, needs)?;
     }
     Ok(())
 }
 
-/// Marks the place of each answer.
-fn mark_asked(flags: &mut Vec<bool>, answers: &[(u32, u64)])
-    requires { (p w : ℕ) → Contains answers.now (p, w) → p < length flags.old.items }
-    ensures long { length flags.new.items ≡ length flags.old.items }
-    ensures marked { (p : ℕ) → flag_at flags.new.items p ≡ (flag_at flags.old.items p || asked answers.now p) }
+/// Wants a place if it is shown.
+fn want_if_shown<S: System>(system: &S, place: u32, needs: &mut Needs) -> Result<(), AllocError>
+    requires place { place < (S.equations system.now).places }
+    requires needs { AreNeeds (S.equations system.now) needs.old }
+    ensures needs { IfOk result (λ _. AreNeeds (S.equations system.now) needs.new) }
+    ensures later { IfOk result (λ _. AreLater needs.old needs.new) }
+    ensures shown { IfOk result (λ _. IsTrue ((S.equations system.now).shown place) → IsTrue (flag_at needs.new.wanted.items place)) }
 {
-    for (place, _answer) in answers {
-        let at = *place as usize;
-        flags[at] = true;
+    if !system.shown(place) {
+        return Ok(());
     }
+    needs.want(place)?;
+    Ok(())
+}
+
+/// Starts each task that waits for no demand.
+fn start_eager<S: System>(
+    alloc: Global,
+    system: &S,
+    values: &[u64],
+    needs: &mut Needs,
+) -> Result<(), AllocError>
+    requires long { length values.now ≡ (S.equations system.now).places }
+    requires solution { slice_index values.now ≡ solution (S.equations system.now) }
+    requires needs { AreNeeds (S.equations system.now) needs.old }
+    ensures needs { IfOk result (λ _. AreNeeds (S.equations system.now) needs.new) }
+    ensures later { IfOk result (λ _. AreLater needs.old needs.new) }
+    ensures started { let e = S.equations system.now in
+        IfOk result (λ _. (t : ℕ) → t < e.tasks → is_lazy (e.task t).start ≡ false → IsTrue (flag_at needs.new.started.items t)) }
+{
+    for task in 0..system.tasks() {
+        start_if_eager(alloc, system, values, task, needs)?;
+    }
+    Ok(())
+}
+
+/// Starts a task unless it waits for demand.
+fn start_if_eager<S: System>(
+    alloc: Global,
+    system: &S,
+    values: &[u64],
+    task: u32,
+    needs: &mut Needs,
+) -> Result<(), AllocError>
+    requires task { task < (S.equations system.now).tasks }
+    requires long { length values.now ≡ (S.equations system.now).places }
+    requires solution { slice_index values.now ≡ solution (S.equations system.now) }
+    requires needs { AreNeeds (S.equations system.now) needs.old }
+    ensures needs { IfOk result (λ _. AreNeeds (S.equations system.now) needs.new) }
+    ensures later { IfOk result (λ _. AreLater needs.old needs.new) }
+    ensures started { IfOk result (λ _. is_lazy ((S.equations system.now).task task).start ≡ false → IsTrue (flag_at needs.new.started.items task)) }
+{
+    match system.start(task) {
+        Start::Lazy => Ok(()),
+        Start::Always | Start::Triggered(_) => start(alloc, system, values, task, needs),
+    }
+}
+
+/// Starts the lazy tasks that make a wanted place.
+fn start_makers<S: System>(
+    alloc: Global,
+    system: &S,
+    values: &[u64],
+    place: u32,
+    needs: &mut Needs,
+) -> Result<(), AllocError>
+    requires place { place < (S.equations system.now).places }
+    requires wanted { IsTrue (flag_at needs.old.wanted.items place) }
+    requires long { length values.now ≡ (S.equations system.now).places }
+    requires solution { slice_index values.now ≡ solution (S.equations system.now) }
+    requires needs { AreNeeds (S.equations system.now) needs.old }
+    ensures needs { IfOk result (λ _. AreNeeds (S.equations system.now) needs.new) }
+    ensures later { IfOk result (λ _. AreLater needs.old needs.new) }
+    ensures started { let e = S.equations system.now in
+        IfOk result (λ _. (t : ℕ) → t < e.tasks → IsTrue (is_maker place (e.task t)) → IsTrue (flag_at needs.new.started.items t)) }
+{
+    for k in 0..system.tasks() {
+        let Some(task) = system.maker(place, k) else {
+            return Ok(());
+        };
+        start(alloc, system, values, task, needs)?;
+    }
+    Ok(())
+}
+
+/// Starts a task that the demand starts, if it wasn't, and wants the places that it uses.
+fn start<S: System>(
+    alloc: Global,
+    system: &S,
+    values: &[u64],
+    task: u32,
+    needs: &mut Needs,
+) -> Result<(), AllocError>
+    requires task { task < (S.equations system.now).tasks }
+    requires runs { IsTrue (is_started (S.equations system.now) (demand (S.equations system.now)) task) }
+    requires long { length values.now ≡ (S.equations system.now).places }
+    requires solution { slice_index values.now ≡ solution (S.equations system.now) }
+    requires needs { AreNeeds (S.equations system.now) needs.old }
+    ensures needs { IfOk result (λ _. AreNeeds (S.equations system.now) needs.new) }
+    ensures later { IfOk result (λ _. AreLater needs.old needs.new) }
+    ensures started { IfOk result (λ _. IsTrue (flag_at needs.new.started.items task)) }
+{
+    if needs.started[task as usize] {
+        return Ok(());
+    }
+    let evaluation = evaluate(alloc, system, values, task)?;
+    needs.want_asked(&evaluation.answers)?;
+    needs.started[task as usize] = true;
+    Ok(())
 }

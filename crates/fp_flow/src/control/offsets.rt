@@ -2,6 +2,7 @@
 ghost use Rattle.std.specs.Prelude.{◌≡◌, ℕ, ◌<◌, ◌≤◌, nat_lt, true, length, slice_index, IfOk};
 ghost use Rattle.fp_model.specs.SoundCode.{ascend_from_0, pcs_of};
 ghost use Rattle.fp_facts.specs.Edges.{number_at};
+ghost use Rattle.fp_flow.specs.EdgeCounts as defined;
 
 use fp_model::Code;
 use std::alloc::{AllocError, Global};
@@ -29,6 +30,12 @@ pub fn number_of(pcs: &[u16], pc: u16) -> u32
 }
 
 /// How many instructions stand before an offset.
-pub fn count_before(pcs: &[u16], pc: u16) -> usize {
-    pcs.partition_point(|other| *other < pc)
+pub fn count_before(pcs: &[u16], pc: u16) -> usize
+    requires { ascend_from_0 pcs.now ≡ true }
+    ensures { result ≡ defined.count_before pcs.now pc }
+{
+    match pcs.binary_search(&pc) {
+        Ok(at) => at,
+        Err(at) => at,
+    }
 }

@@ -5,22 +5,22 @@ ghost use Rattle.fp_model.specs.declared.class.Class.{Class};
 ghost use Rattle.fp_facts.specs.Hierarchy.{superclasses, superinterfaces_at};
 ghost use Rattle.fp_hier.specs.Lineages.{classes_up};
 ghost use Rattle.fp_hier.specs.Marks as marks;
-ghost use Rattle.fp_hier.specs.Tables.{all_superinterfaces};
+ghost use Rattle.fp_hier.specs.Lists.{AreListsOf};
 
 use crate::lineage::{Lineage, superclass_name};
+use crate::superinterfaces::Superinterfaces;
 use fp_model::{Class, ClassId, ClassSet};
-use sqlite_items::Items;
 use std::alloc::{AllocError, Global};
 
 /// A class's name and those of its ancestors: its superclasses from the nearest up, and then the superinterfaces of all of these.
 pub(super) fn own_names(
     alloc: Global,
     set: &ClassSet,
-    superinterfaces: &[Items<u32>],
+    superinterfaces: &Superinterfaces,
     class: ClassId,
 ) -> Result<Vec<u32>, AllocError>
     requires class { class < length set.now.classes }
-    requires lists { superinterfaces.now ≡ all_superinterfaces set.now.classes }
+    requires lists { AreListsOf set.now.classes superinterfaces.now }
     ensures { IfOk result (λ names. (c : Class) → slice_get set.now.classes class ≡ Some c → names.items ≡ marks.own_names set.now.classes c) }
 {
     let mut names = Vec::new(alloc);
@@ -51,16 +51,16 @@ fn push_superclasses(names: &mut Vec<u32>, set: &ClassSet, class: &Class) -> Res
 fn push_superinterfaces(
     names: &mut Vec<u32>,
     set: &ClassSet,
-    superinterfaces: &[Items<u32>],
+    superinterfaces: &Superinterfaces,
     class: ClassId,
 ) -> Result<(), AllocError>
     requires class { class < length set.now.classes }
-    requires lists { superinterfaces.now ≡ all_superinterfaces set.now.classes }
+    requires lists { AreListsOf set.now.classes superinterfaces.now }
     ensures { OnOk result (names.new.items ≡ names.old.items ++ flat_map (superinterfaces_at set.now.classes) (classes_up set.now.classes class)) }
 {
     let mut rest = Lineage::of(set, class);
     while let Some(id) = rest.step(set) {
-        names.extend_from_slice(superinterfaces[id as usize].as_slice())?;
+        names.extend_from_slice(superinterfaces.of(id))?;
     }
     Ok(())
 }

@@ -1,9 +1,11 @@
 use crate::kind::{Descr, Kind, Sort};
+use crate::shared::Shared;
 use sqlite_items::Items;
 
 /// The forms of instructions. An `op` is an opcode, without `wide`; a `to` is an offset in the code,
-/// in bytes; classes, names and descriptors are numbers of a table of names.
-#[derive(Debug, Drop)]
+/// in bytes; classes, names and descriptors are numbers of a table of names. What descriptors say, and the static arguments
+/// of bootstrap methods, are shared, so that a class has each once however many instructions name it.
+#[derive(Drop)]
 pub enum Instr {
     Nop,
     Null,
@@ -76,31 +78,31 @@ pub enum Instr {
         class: u32,
         name: u32,
         descr: u32,
-        kinds: Descr,
+        kinds: Shared<Descr>,
     },
     InvokeSpecial {
         class: u32,
         name: u32,
         descr: u32,
-        kinds: Descr,
+        kinds: Shared<Descr>,
     },
     InvokeStatic {
         class: u32,
         name: u32,
         descr: u32,
-        kinds: Descr,
+        kinds: Shared<Descr>,
     },
     InvokeInterface {
         class: u32,
         name: u32,
         descr: u32,
-        kinds: Descr,
+        kinds: Shared<Descr>,
     },
     InvokeDynamic {
         name: u32,
-        descr: Descr,
+        descr: Shared<Descr>,
         boot: BootRef,
-        args: Items<BootArg>,
+        args: Shared<Items<BootArg>>,
     },
     New {
         class: u32,
@@ -131,10 +133,10 @@ pub struct BootRef {
 }
 
 /// A static argument of a bootstrap method.
-#[derive(Debug, Drop)]
+#[derive(Drop)]
 pub enum BootArg {
     /// A method type.
-    Sig(Descr),
+    Sig(Shared<Descr>),
     /// A method handle.
     Ref(BootRef),
     Other,

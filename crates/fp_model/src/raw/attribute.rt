@@ -2,7 +2,7 @@ use sqlite_items::Items;
 
 /// An attribute (JVMS SE 21 section 4.7).
 #[cycle(attribute)]
-#[derive(Debug, Drop)]
+#[derive(Drop)]
 pub struct RawAttr {
     /// The constant pool index of the name.
     pub name: u16,
@@ -11,7 +11,7 @@ pub struct RawAttr {
 
 /// What an attribute holds.
 #[cycle(attribute)]
-#[derive(Debug, Drop)]
+#[derive(Drop)]
 pub enum RawBody {
     /// An attribute that is kept unread.
     Bytes(Items<u8>),
@@ -24,7 +24,7 @@ pub enum RawBody {
 
 /// A `Code` attribute (JVMS SE 21 section 4.7.3).
 #[cycle(attribute)]
-#[derive(Debug, Drop)]
+#[derive(Drop)]
 pub struct RawCode {
     /// In words.
     pub max_stack: u16,
@@ -36,7 +36,7 @@ pub struct RawCode {
 }
 
 /// A row of `BootstrapMethods` (JVMS SE 21 section 4.7.23).
-#[derive(Debug, Drop)]
+#[derive(Drop)]
 pub struct BootRow {
     /// The constant pool index of the method handle.
     pub method: u16,
@@ -55,7 +55,7 @@ pub struct CatchRow {
 }
 
 /// One instruction as its bytes (JVMS SE 21 chapter 6).
-#[derive(Debug, Drop)]
+#[derive(Drop)]
 pub struct RawIns {
     /// The opcode, behind `wide` where there is one.
     pub op: u8,

@@ -1,5 +1,5 @@
 //! How an instruction moves the words of a frame (JVMS SE 21 section 6.5).
-ghost use Rattle.std.specs.Prelude.{◌≡◌, ◌∷◌, [], length, slice_index_or, IfOk};
+ghost use Rattle.std.specs.Prelude.{◌≡◌, ◌∷◌, [], length, IfOk};
 ghost use Rattle.fp_facts.specs.Moves as moves;
 ghost use Rattle.fp_facts.specs.Sorts as sorts;
 ghost use Rattle.fp_facts.specs.Transfer as transfer;
@@ -7,8 +7,8 @@ ghost use Rattle.fp_origin.specs.Groups as groups;
 ghost use Rattle.fp_facts.specs.declared.effect.Effect.TheVariants.{Loads};
 
 use super::transfers::Transfer;
-use fp_facts::{Effect, Label, Shuffling};
-use fp_flow::is_wide;
+use fp_facts::{Effect, Label};
+use fp_flow::{is_wide, shuffled, without_top, word_at};
 use fp_model::Sort;
 use sqlite_items::Items;
 use std::alloc::{AllocError, Global};
@@ -18,26 +18,6 @@ fn width(sort: Sort) -> usize
     ensures { result ≡ length (sorts.words_of sort) }
 {
     if is_wide(sort) { 2 } else { 1 }
-}
-
-/// The word at a place, and none behind the last.
-fn word_at(words: &[u64], at: usize) -> u64
-    ensures { result ≡ slice_index_or words.now at 0 }
-{
-    words.get(at).copied().unwrap_or(0)
-}
-
-fn at_depth(stack: &[u64], depth: u8) -> u64
-    ensures { result ≡ transfer.at_depth 0 stack.now depth }
-{
-    word_at(stack, stack.len().saturating_sub(depth as usize))
-}
-
-/// The stack without so many words on top.
-fn without_top(alloc: Global, stack: &[u64], count: usize) -> Result<Vec<u64>, AllocError>
-    ensures { IfOk result (λ v. v.items ≡ transfer.without_top count stack.now) }
-{
-    Vec::from_slice(alloc, &stack[..stack.len().saturating_sub(count)])
 }
 
 /// So many words on top of the stack.
@@ -97,22 +77,11 @@ fn loaded(
     ensures { IfOk result (λ v. v.items ≡ moves.moved_stack 0 [] (Loads sort at) locals.now stack.now) }
 {
     let mut loaded = Vec::from_slice(alloc, stack)?;
-    loaded.push(word_at(locals, at as usize))?;
+    loaded.push(word_at(locals, at as usize, 0))?;
     if is_wide(sort) {
-        loaded.push(word_at(locals, at as usize + 1))?;
+        loaded.push(word_at(locals, at as usize + 1, 0))?;
     }
     Ok(loaded)
-}
-
-/// The stack behind a shuffling.
-fn shuffled(alloc: Global, shuffling: &Shuffling, stack: &[u64]) -> Result<Vec<u64>, AllocError>
-    ensures { IfOk result (λ v. v.items ≡ transfer.shuffled 0 shuffling.now stack.now) }
-{
-    let mut moved = without_top(alloc, stack, shuffling.takes as usize)?;
-    for depth in shuffling.order.as_slice() {
-        moved.push(at_depth(stack, *depth))?;
-    }
-    Ok(moved)
 }
 
 /// The stack behind an instruction, by the words that it makes anew.
@@ -129,7 +98,7 @@ fn moved_stack(
         Effect::Loads { sort, at } => loaded(alloc, *sort, *at, locals, stack),
         Effect::Stores { sort, .. } => without_top(alloc, stack, width(*sort)),
         Effect::Counts { .. } | Effect::Keeps => Vec::from_slice(alloc, stack),
-        Effect::Shuffles(shuffling) => shuffled(alloc, shuffling, stack),
+        Effect::Shuffles(shuffling) => shuffled(alloc, shuffling, stack, 0),
         Effect::Takes { operands, .. } => {
             let mut left = without_top(alloc, stack, operands.len())?;
             left.extend_from_slice(made)?;

@@ -7,8 +7,8 @@ use Rattle.fp_model.proofs.Taking.{kept_by, taken_late}
 use Rattle.fp_class.specs.MethodCode.{row_texts, IsGuardOf}
 use Rattle.fp_class.proofs.NamedCode.{IsGuardOf-kept}
 use Rattle.fp_class.proofs.NamedParts.{AllZip-to, AllZip-more}
-use Rattle.fp_class.proofs.Tables.{front_of, names_more, pushed}
-use Rattle.fp_class.proofs.TakenTexts.{all_taken, one_stops}
+use Rattle.fp_ops.proofs.Tables.{front_of, names_more, pushed}
+use Rattle.fp_ops.proofs.TakenTexts.{all_taken, one_stops}
 use Rattle.fp_class.proofs.code.guards.Goals as goal
 
 abbrev no_row : CatchRow

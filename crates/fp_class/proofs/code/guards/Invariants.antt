@@ -1,7 +1,7 @@
 use Rattle.std.proofs.Common.{◌≡◌, take}
 use Rattle.std.specs.List.{flat_map, AllZip}
 use Rattle.fp_base.specs.Names.{with_names}
-use Rattle.fp_class.specs.Memos.{IsMemo}
+use Rattle.fp_ops.specs.Memos.{IsMemo}
 use Rattle.fp_class.specs.MethodCode.{row_texts, IsGuardOf}
 use Rattle.fp_class.proofs.code.guards.Given as goal
 

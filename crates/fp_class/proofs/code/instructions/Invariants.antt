@@ -1,7 +1,7 @@
 use Rattle.std.proofs.Common.{◌≡◌, ◌+◌, true, length, drop, take}
 use Rattle.std.specs.List.{flat_map}
 use Rattle.fp_base.specs.Names.{with_names}
-use Rattle.fp_class.specs.Memos.{IsMemo}
+use Rattle.fp_ops.specs.Memos.{IsMemo}
 use Rattle.fp_class.specs.MethodCode.{AreInstrsFrom}
 use Rattle.fp_model.specs.Spelling.{spelled_ins}
 use Rattle.fp_ops.specs.Checked.{are_sound_from}

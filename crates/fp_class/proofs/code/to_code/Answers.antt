@@ -1,5 +1,5 @@
 use Rattle.std.proofs.Common.{subst}
-use Rattle.fp_class.specs.Memos.{IsMemo}
+use Rattle.fp_ops.specs.Memos.{IsMemo}
 use Rattle.fp_class.proofs.code.to_code.Goals as goal
 
 pub code_with-requires-clause-memo : goal.code_with-requires-clause-memo

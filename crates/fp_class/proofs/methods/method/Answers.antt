@@ -10,7 +10,7 @@ use Rattle.fp_class.specs.MethodCode.{code_texts}
 use Rattle.fp_class.specs.Methods.{code_of}
 use Rattle.fp_class.proofs.NamedMethods.{method_named}
 use Rattle.fp_class.proofs.NamedParts.{entry_passes}
-use Rattle.fp_class.proofs.TakenTexts.{after_two, last_of_four, taken_of}
+use Rattle.fp_ops.proofs.TakenTexts.{after_two, last_of_four, taken_of}
 use Rattle.fp_class.proofs.methods.method.Goals as goal
 
 pub returns-in_err-name-clause-names : goal.returns-in_err-name-clause-names

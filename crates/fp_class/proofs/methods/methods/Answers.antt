@@ -6,8 +6,8 @@ use Rattle.fp_class.specs.Classes.{method_names}
 use Rattle.fp_class.specs.Naming.{IsNamedMethod}
 use Rattle.fp_class.proofs.NamedMethods.{IsNamedMethod-kept}
 use Rattle.fp_class.proofs.NamedParts.{AllZip-to, AllZip-more}
-use Rattle.fp_class.proofs.Tables.{front_of, names_more, pushed}
-use Rattle.fp_class.proofs.TakenTexts.{all_taken, one_stops}
+use Rattle.fp_ops.proofs.Tables.{front_of, names_more, pushed}
+use Rattle.fp_ops.proofs.TakenTexts.{all_taken, one_stops}
 use Rattle.fp_class.proofs.methods.methods.Goals as goal
 
 pub returns-in_err-one-clause-names : goal.returns-in_err-one-clause-names

@@ -2,7 +2,7 @@ use Rattle.std.proofs.Common.{◌≡◌, take}
 use Rattle.std.specs.List.{flat_map, AllZip}
 use Rattle.fp_base.specs.Names.{with_names}
 use Rattle.fp_class.specs.Classes.{method_names}
-use Rattle.fp_class.specs.Memos.{IsMemo}
+use Rattle.fp_ops.specs.Memos.{IsMemo}
 use Rattle.fp_class.specs.Naming.{IsNamedMethod}
 use Rattle.fp_class.proofs.methods.methods.Given as goal
 

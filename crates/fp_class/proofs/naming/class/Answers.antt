@@ -12,7 +12,7 @@ use Rattle.fp_class.proofs.Facts.{facts_of}
 use Rattle.fp_class.proofs.NamedClass.{class_over, texts_whole}
 use Rattle.fp_class.proofs.NamedParts.{passes-is_some}
 use Rattle.fp_class.proofs.SoundCodes.{sound_codes}
-use Rattle.fp_class.proofs.TakenTexts.{after_two, after_three, five_taken, last_of_five, taken_of}
+use Rattle.fp_ops.proofs.TakenTexts.{after_two, after_three, five_taken, last_of_five, taken_of}
 use Rattle.fp_class.proofs.naming.class.Goals as goal
 
 pub class_name-requires-clause-there : goal.class_name-requires-clause-there

@@ -7,7 +7,7 @@ use Rattle.fp_model.specs.Entries.{class_name_at}
 use Rattle.fp_class.specs.Interning.{IsClassName}
 use Rattle.fp_class.proofs.NamedParts.{AllZip-to, AllZip-more, IsClassName-kept}
 use Rattle.fp_model.proofs.Interned.{interned_lost, kept_by}
-use Rattle.fp_class.proofs.Tables.{all_interned, names_more, pushed, one_stops}
+use Rattle.fp_ops.proofs.Tables.{all_interned, names_more, pushed, one_stops}
 use Rattle.fp_class.proofs.naming.class_names.Goals as goal
 
 pub returns-in_err-number-clause-names : goal.returns-in_err-number-clause-names

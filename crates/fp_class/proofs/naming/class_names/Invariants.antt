@@ -4,7 +4,7 @@ use Rattle.std.specs.Option.{option_to_list}
 use Rattle.fp_base.specs.Names.{with_names}
 use Rattle.fp_model.specs.Entries.{class_name_at}
 use Rattle.fp_class.specs.Interning.{IsClassName}
-use Rattle.fp_class.specs.Memos.{IsMemo}
+use Rattle.fp_ops.specs.Memos.{IsMemo}
 use Rattle.fp_class.proofs.naming.class_names.Given as goal
 
 abbrev pub invariant-loop-index : goal.invariant-loop-index

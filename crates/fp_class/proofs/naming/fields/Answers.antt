@@ -5,7 +5,7 @@ use Rattle.fp_class.specs.Classes.{field_names}
 use Rattle.fp_class.specs.Interning.{IsNamedField}
 use Rattle.fp_class.proofs.NamedParts.{AllZip-to, AllZip-more, IsNamedField-kept}
 use Rattle.fp_model.proofs.Interned.{interned_lost, kept_by}
-use Rattle.fp_class.proofs.Tables.{all_interned, front_of, names_more, pushed, one_stops}
+use Rattle.fp_ops.proofs.Tables.{all_interned, front_of, names_more, pushed, one_stops}
 use Rattle.fp_class.proofs.naming.fields.Goals as goal
 
 pub returns-in_err-one-clause-names : goal.returns-in_err-one-clause-names

@@ -3,7 +3,7 @@ use Rattle.std.specs.List.{flat_map, AllZip}
 use Rattle.fp_base.specs.Names.{with_names}
 use Rattle.fp_class.specs.Classes.{field_names}
 use Rattle.fp_class.specs.Interning.{IsNamedField}
-use Rattle.fp_class.specs.Memos.{IsMemo}
+use Rattle.fp_ops.specs.Memos.{IsMemo}
 use Rattle.fp_class.proofs.naming.fields.Given as goal
 
 abbrev pub invariant-loop-member : goal.invariant-loop-member

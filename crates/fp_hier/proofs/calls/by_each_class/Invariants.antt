@@ -6,4 +6,4 @@ use Rattle.fp_hier.proofs.calls.by_each_class.Given as goal
 
 abbrev pub invariant-loop-class : goal.invariant-loop-class
 invariant-loop-class l =
-    AreTargetsByClass (length (methods_of l.set.classes)) (map (λ id. (id, selected_at l.set id l.reference.name l.reference.descr)) (take l.class-index l.class-items)) l.by_class.items
+    AreTargetsByClass (length (methods_of l.set.classes)) (map (λ id. (id, selected_at l.set id l.reference.signature.name l.reference.signature.descr)) (take l.class-index l.class-items)) l.by_class.items

@@ -2,10 +2,10 @@ use Rattle.std.proofs.Common.{◌≡◌}
 use Rattle.std.specs.Map.{lookup}
 use Rattle.fp_facts.specs.Resolution.{declared_field}
 use Rattle.fp_hier.specs.Members.{is_key}
-use Rattle.fp_hier.specs.declared.declared.Signature.{Signature}
+use Rattle.fp_hier.specs.declared.declared.Member.{Member}
 use Rattle.fp_hier.proofs.FirstMembers.{below}
 use Rattle.fp_hier.proofs.declared.all_fields.Given as goal
 
 abbrev pub invariant-loop-class : goal.invariant-loop-class
 invariant-loop-class l =
-    (k : Signature) → lookup (is_key k) l.table.entries ≡ below (declared_field l.set.classes k.name k.descr) l.class k.class
+    (k : Member) → lookup (is_key k) l.table.entries ≡ below (declared_field l.set.classes k.name k.descr) l.class k.class

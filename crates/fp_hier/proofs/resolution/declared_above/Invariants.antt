@@ -7,7 +7,7 @@ use Rattle.fp_hier.proofs.resolution.declared_above.Given as goal
 
 abbrev pub invariant-loop-id : goal.invariant-loop-id
 invariant-loop-id l = record {
-  same : first_given (declared_method l.set.classes l.name l.descr) (rest_of l.set.classes l.rest) ≡ first_given (declared_method l.set.classes l.name l.descr) (classes_up l.set.classes l.class);
+  same : first_given (declared_method l.set.classes l.signature.name l.signature.descr) (rest_of l.set.classes l.rest) ≡ first_given (declared_method l.set.classes l.signature.name l.signature.descr) (classes_up l.set.classes l.class);
   known : IfSome l.rest.first (λ id. id < length l.set.classes);
 }
 

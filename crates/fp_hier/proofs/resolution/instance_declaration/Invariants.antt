@@ -8,7 +8,7 @@ use Rattle.fp_hier.proofs.resolution.instance_declaration.Given as goal
 
 abbrev pub invariant-loop-id : goal.invariant-loop-id
 invariant-loop-id l = record {
-  same : first_given (given_by l.set.classes is_instance l.name l.descr) (rest_of l.set.classes l.rest) ≡ first_given (given_by l.set.classes is_instance l.name l.descr) (classes_up l.set.classes l.class);
+  same : first_given (given_by l.set.classes is_instance l.signature.name l.signature.descr) (rest_of l.set.classes l.rest) ≡ first_given (given_by l.set.classes is_instance l.signature.name l.signature.descr) (classes_up l.set.classes l.class);
   known : IfSome l.rest.first (λ id. id < length l.set.classes);
 }
 

@@ -3,4 +3,4 @@ use Rattle.fp_hier.proofs.FirstMembers.{method-known}
 use Rattle.fp_hier.proofs.resolution.instance_method.Goals as goal
 
 pub method-requires-2 : goal.method-requires-2
-method-requires-2 c = method-known c.args.set.now.classes c.args.name c.args.descr c.args.class c.in_ok-id.id (sym (c.in_ok-id.ensures c.args.set.now c.requires))
+method-requires-2 c = method-known c.args.set.now.classes c.args.signature.name c.args.signature.descr c.args.class c.in_ok-id.id (sym (c.in_ok-id.ensures c.args.set.now c.requires.members))

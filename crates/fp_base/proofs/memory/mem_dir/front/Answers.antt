@@ -3,6 +3,6 @@ use Rattle.std.proofs.Common.{rules}
 use Rattle.fp_base.specs.Files.{first_bytes}
 use Rattle.fp_base.proofs.memory.mem_dir.front.Goals as goal
 
-pub returns-clause-ok : goal.returns-clause-ok
+pub returns : goal.returns
 unfolding first_bytes
-returns-clause-ok c = search rules
+returns c = search rules

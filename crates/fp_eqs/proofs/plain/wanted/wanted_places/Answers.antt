@@ -1,32 +1,27 @@
-use Rattle.std.proofs.Common.{◌≡◌, ◌≤◌, ◌+◌, ◌∙◌, ℕ, Bool, List, ap, sym, subst, arith, add-one}
-use Rattle.fp_eqs.specs.Demand.{demand_round, demand_after}
-use Rattle.fp_eqs.specs.Solved.{flag_at}
-use Rattle.fp_eqs.proofs.LeastDemand.{demand-rounds, demand-stays}
+use Rattle.std.proofs.Common.{rules, ◌≡◌, ◌<◌, ◌≤◌, length, slice_index, arith}
+use Rattle.std.proofs.lemmas.List.{get_or_read}
+use Rattle.fp_eqs.proofs.Needed.{all-needed, found-few, found-places}
 use Rattle.fp_eqs.proofs.plain.wanted.wanted_places.Goals as goal
-
-pub loop-round-preserved : goal.loop-round-preserved
-loop-round-preserved g c =
-    let e = g.S.System.equations c.args.system.now in
-    record {
-      long = c.in_ok-next.ensures.long;
-      flags = rw add-one (c.in_ok-next.ensures.round ∙ ap {B = ℕ → Bool} (λ (xs : List Bool). demand_round e (flag_at xs)) c.deref.ensures.value
-          ∙ ap {B = ℕ → Bool} (λ (d : ℕ → Bool). demand_round e d) c.loop-round.invariant.flags);
-    }
 
 pub returns-clause-demand : goal.returns-clause-demand
 returns-clause-demand g c =
     let e = g.S.System.equations c.args.system.now in
-    let end : c.loop-round._round ≡ e.places + 1 = omega arith in
-    (rw end at c.loop-round.invariant.flags) ∙ sym (demand-rounds e)
+    let l = c.loop-at.invariant in
+    all-needed e (g.S.System.monotone c.args.system.now) c.loop-at.needs l.needs l.shown l.eager
+    (λ i t lt. l.makers i t (omega (arith, lt, found-few e c.loop-at.needs l.needs, c.loop-at-test.false, c.places-at-end.ensures)) lt)
 
-pub returns-then-are_same-clause-demand : goal.returns-then-are_same-clause-demand
-returns-then-are_same-clause-demand g c =
+pub returns-then-len-at-clause-demand : goal.returns-then-len-at-clause-demand
+returns-then-len-at-clause-demand g c =
     let e = g.S.System.equations c.args.system.now in
-    let flags = c.loop-round.wanted.items in
-    let next : c.in_ok-next.next.items ≡ flags = sym c.deref-in-loop-round.ensures.value ∙ c.are_same.ensures c.if-are_same.true ∙ c.deref-in-loop-round-2.ensures.value in
-    let after : flag_at c.in_ok-next.next.items ≡ demand_round e (flag_at flags) = subst (λ xs. flag_at c.in_ok-next.next.items ≡ demand_round e (flag_at xs)) c.deref.ensures.value c.in_ok-next.ensures.round in
-    let same : (p : ℕ) → demand_round e (flag_at flags) p ≡ flag_at flags p = λ p. ap (λ (f : ℕ → Bool). f p) (sym after ∙ ap {B = ℕ → Bool} (λ (xs : List Bool). flag_at xs) next) in
-    let is : (p : ℕ) → demand_after e c.loop-round._round p ≡ flag_at flags p = λ p. ap (λ (f : ℕ → Bool). f p) (sym c.loop-round.invariant.flags) in
-    let within : c.loop-round._round ≤ e.places + 1 = omega arith in
-    let all = demand-stays e (flag_at flags) c.loop-round._round is same (e.places + 1) within in
-    sym (demand-rounds e ∙ (λ i p. all p i))
+    let l = c.loop-at.invariant in
+    let past : length c.loop-at.needs.found.items ≤ c.loop-at.at = search rules in
+    all-needed e (g.S.System.monotone c.args.system.now) c.loop-at.needs l.needs l.shown l.eager (λ i t lt. l.makers i t (omega (arith, lt, past)) lt)
+
+pub start_makers-requires-clause-place : goal.start_makers-requires-clause-place
+start_makers-requires-clause-place g c =
+    let e = g.S.System.equations c.args.system.now in
+    let lt : c.loop-at.at < length c.loop-at.needs.found.items = search rules in
+    let known = found-places e (g.S.System.monotone c.args.system.now) c.loop-at.needs c.loop-at.at c.loop-at.invariant.needs lt in
+    let is : c.index-place.result.now ≡ slice_index c.loop-at.needs.found.items c.loop-at.at =
+    get_or_read c.loop-at.needs.found.items c.loop-at.at c.index-place.result.now lt c.index-place.ensures 0 in
+    rw is known.0

@@ -11,4 +11,4 @@ pub loop-name-preserved : goal.loop-name-preserved
 loop-name-preserved c =
     let at = c.loop-name.name-index in
     more-marks c.args.class _ _ _ _ _ _ c.loop-name.invariant c.mark_name.ensures
-    (λ row. list_any_more (marks c.args.set.now c.args.concrete row) c.args.names.now at 0 (omega arith))
+    (λ row within. list_any_more (marks c.args.set.now row) c.args.names.now at 0 (omega arith))

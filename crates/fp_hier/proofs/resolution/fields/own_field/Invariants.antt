@@ -6,5 +6,5 @@ use Rattle.fp_hier.proofs.resolution.fields.own_field.Given as goal
 
 abbrev pub invariant-loop-interface : goal.invariant-loop-interface
 invariant-loop-interface l =
-    first_given (declared_field l.set.classes l.name l.descr) (classes_among l.set.classes (drop l.interface-index l.names))
-    ≡ first_given (declared_field l.set.classes l.name l.descr) (class_and_superinterfaces l.set.classes l.class)
+    first_given (declared_field l.set.classes l.signature.name l.signature.descr) (classes_among l.set.classes (drop l.interface-index l.names))
+    ≡ first_given (declared_field l.set.classes l.signature.name l.signature.descr) (class_and_superinterfaces l.set.classes l.class)

@@ -7,8 +7,8 @@ use Rattle.fp_hier.proofs.resolution.fields.resolve_field.Given as goal
 
 abbrev pub invariant-loop-id : goal.invariant-loop-id
 invariant-loop-id l = record {
-  same : first_given (λ id. first_given (declared_field l.set.classes l.name l.descr) (class_and_superinterfaces l.set.classes id)) (rest_of l.set.classes l.rest)
-      ≡ first_given (λ id. first_given (declared_field l.set.classes l.name l.descr) (class_and_superinterfaces l.set.classes id)) (classes_up l.set.classes l.class);
+  same : first_given (λ id. first_given (declared_field l.set.classes l.signature.name l.signature.descr) (class_and_superinterfaces l.set.classes id)) (rest_of l.set.classes l.rest)
+      ≡ first_given (λ id. first_given (declared_field l.set.classes l.signature.name l.signature.descr) (class_and_superinterfaces l.set.classes id)) (classes_up l.set.classes l.class);
   known : IfSome l.rest.first (λ id. id < length l.set.classes);
 }
 

@@ -14,6 +14,7 @@ list-tells g c =
       kept = c.ensures.kept;
       present = c.ensures.present;
       cause = c.ensures.cause;
+      readings = c.ensures.readings;
     }
 
 pub read-tells : goal.read-tells
@@ -26,4 +27,5 @@ read-tells g c =
       absent = λ is. absurd (c.ensures.present is);
       absent_is_no_fault = λ is. absurd (c.ensures.present is);
       cause = c.ensures.cause;
+      readings = c.ensures.readings;
     }

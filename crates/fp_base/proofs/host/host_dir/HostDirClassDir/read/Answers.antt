@@ -5,4 +5,4 @@ use Rattle.fp_base.proofs.host.host_dir.HostDirClassDir.read.Goals as goal
 
 pub returns-in-Err-Failed-clause-cause : goal.returns-in-Err-Failed-clause-cause
 returns-in-Err-Failed-clause-cause g c =
-    cause-noted c.args.self.now.failed _ _ _ (search rules) (search rules) c.note_reading.ensures.present
+    cause-noted c.args.self.now.failed _ _ _ (search rules) (search rules) c.note_failed.ensures.present

@@ -1,0 +1,5 @@
+pub mod RingLemmas
+pub mod ShapeLemmas
+pub mod EdgeLemmas
+pub mod RowLemmas
+pub mod LinkLemmas

@@ -1,6 +1,0 @@
-use Rattle.std.proofs.Common.{◌≡◌, ◌++◌, map, take}
-use Rattle.fp_facts.specs.Transfer as transfer
-use Rattle.fp_origin.proofs.group.moves.shuffled.Given as goal
-
-abbrev pub invariant-loop-depth : goal.invariant-loop-depth
-invariant-loop-depth l = l.moved.items ≡ l.initial.moved.items ++ map (transfer.at_depth 0 l.stack) (take l.depth-index l.depth-items)
