@@ -44,7 +44,7 @@ fn chain(alloc: Global, count: u32) -> Result<IndexMap<String, Vec<u8>>, AllocEr
     let mut files = IndexMap::new(alloc);
     let mut parent = String::from_str(alloc, "java/lang/Object")?;
     for number in 0..count {
-        let name = format!(in alloc; "K{number}")?;
+        let name = format!(in alloc; "Link{number}")?;
         let path = format!(in alloc; "d/{name}.class")?;
         files.insert(path, class_file(alloc, name.as_str(), parent.as_str())?)?;
         parent = name;
@@ -58,18 +58,18 @@ fn a_chain_of_two_thousand_classes_is_reported(rt: HostRuntime) -> Result<(), Fa
     let words = "--analyses declared --show declared --workers 1 d";
     let text = run_text(rt.alloc(), files, words)?;
     assert!(rt;
-        text.starts_with("Done\ndeclared K0 final\ndeclared K1 final\ndeclared K10 final\n")
+        text.starts_with("Done\ndeclared Link0 final\ndeclared Link1 final\ndeclared Link10 final\n")
     );
-    assert!(rt; text.ends_with("declared K999 final\ncells 2000\n"));
+    assert!(rt; text.ends_with("declared Link999 final\ncells 2000\n"));
     Ok(())
 }
 
 #[test]
 fn the_last_of_a_chain_is_reported(rt: HostRuntime) -> Result<(), Fail> {
     let files = chain(rt.alloc(), 2_000)?;
-    let words = "--analyses declared --show declared=K1999 --workers 1 d";
+    let words = "--analyses declared --show declared=Link1999 --workers 1 d";
     let text = run_text(rt.alloc(), files, words)?;
-    assert_eq!(rt; text.as_str(), "Done\ndeclared K1999 final\ncells 2000\n");
+    assert_eq!(rt; text.as_str(), "Done\ndeclared Link1999 final\ncells 2000\n");
     Ok(())
 }
 
