@@ -1,8 +1,9 @@
+use crate::operands::Operands;
 use fp_model::Sort;
 use sqlite_items::Items;
 
 /// What an instruction does to the words of a frame (JVMS SE 21 section 6.5).
-#[derive(Debug, Drop)]
+#[derive(Drop)]
 pub enum Effect {
     /// Pushes the value of a local variable.
     Loads {
@@ -24,13 +25,13 @@ pub enum Effect {
     Shuffles(Shuffling),
     /// Pops the operands and pushes the results, each with the lowest word first.
     Takes {
-        operands: Items<Sort>,
+        operands: Operands,
         results: Items<Sort>,
     },
 }
 
 /// How the words on top of the stack are moved. A depth of 1 is the top.
-#[derive(Debug, Drop)]
+#[derive(Drop)]
 pub struct Shuffling {
     /// How many words are taken from the stack.
     pub takes: u8,

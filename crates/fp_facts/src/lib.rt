@@ -7,6 +7,7 @@ mod facts;
 mod label;
 mod laws;
 mod loaded;
+mod operands;
 mod origin;
 mod origin_set;
 
@@ -20,5 +21,6 @@ pub use laws::{
     law_same_solution, law_seeds, law_sorts,
 };
 pub use loaded::Loaded;
+pub use operands::Operands;
 pub use origin::Origin;
 pub use origin_set::OriginSet;

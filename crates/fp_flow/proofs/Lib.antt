@@ -1,3 +1,4 @@
+mod OperandWords
 mod Ranges
 mod Visits
 pub mod Counting

@@ -5,9 +5,9 @@ ghost use Rattle.fp_facts.specs.Sorts as words;
 ghost use Rattle.fp_facts.specs.declared.effect.Effect.TheVariants.{Takes};
 ghost use Rattle.fp_flow.specs.Plain.{is_plain};
 
-use crate::sorts::{push_kinds, push_words, result_words, sort_of, words_of};
-use fp_facts::{Effect, Shuffling};
-use fp_model::{Descr, Instr, Kind, Sort};
+use crate::sorts::{push_words, result_words, sort_of, words_of};
+use fp_facts::{Effect, Operands, Shuffling};
+use fp_model::{Descr, Instr, Kind, Shared, Sort};
 use sqlite_items::Items;
 use std::alloc::{AllocError, Global};
 
@@ -172,7 +172,7 @@ fn takes(operands: Vec<Sort>, results: Vec<Sort>) -> Effect
     ensures { result ≡ Takes operands.items results.items }
 {
     Effect::Takes {
-        operands: Items::from_vec(operands),
+        operands: Operands::of_words(operands),
         results: Items::from_vec(results),
     }
 }
@@ -200,13 +200,17 @@ fn puts(alloc: Global, operands: &[Sort], value: Sort) -> Result<Effect, AllocEr
     Ok(takes(words, Vec::new(alloc)))
 }
 
-/// A call: pops the words of a receiver, where there is one, and of the arguments, and pushes those of the result.
-fn call(alloc: Global, receiver: &[Sort], kinds: &Descr) -> Result<Effect, AllocError>
+/// A call: pops the words of a receiver, where there is one, and of the arguments, which its descriptor tells, and pushes those of
+/// the result.
+fn call(alloc: Global, receiver: &[Sort], kinds: &Shared<Descr>) -> Result<Effect, AllocError>
     ensures { IfOk result (λ e. e ≡ Takes (receiver.now ++ words.words_of_kinds kinds.now.args) (words.result_words kinds.now.result)) }
 {
-    let mut operands = Vec::from_slice(alloc, receiver)?;
-    push_kinds(&mut operands, kinds.args.as_slice())?;
-    Ok(takes(operands, result_words(alloc, kinds.result)?))
+    let receiver = Vec::from_slice(alloc, receiver)?;
+    let results = result_words(alloc, kinds.result)?;
+    Ok(Effect::Takes {
+        operands: Operands::of_call(receiver, kinds)?,
+        results: Items::from_vec(results),
+    })
 }
 
 /// An array of so many dimensions: pops an int for each.

@@ -1,13 +1,10 @@
 //! The words that values take in a frame (JVMS SE 21 sections 2.6.1 and 2.6.2).
-ghost use Rattle.std.specs.Prelude.{◌≡◌, ◌++◌, [], IfOk, OnOk};
-ghost use Rattle.fp_model.specs.Flags as flags;
+ghost use Rattle.std.specs.Prelude.{◌≡◌, ◌++◌, [], length, IfOk, OnOk};
 ghost use Rattle.fp_facts.specs.Sorts as words;
 
+use fp_model::flags::is_static;
 use fp_model::{Kind, Method, Sort};
 use std::alloc::{AllocError, Global};
-
-/// The access flag of a static member.
-const ACC_STATIC: u16 = 0x0008;
 
 /// The sort of the first word of a value of a type.
 pub fn sort_of(kind: Kind) -> Sort
@@ -27,6 +24,13 @@ pub fn is_wide(sort: Sort) -> bool
     ensures { result ≡ words.is_wide sort }
 {
     matches!(sort, Sort::Long | Sort::Double)
+}
+
+/// How many words a value takes.
+pub fn width(sort: Sort) -> usize
+    ensures { result ≡ length (words.words_of sort) }
+{
+    if is_wide(sort) { 2 } else { 1 }
 }
 
 /// The words of a value, the first lowest.
@@ -76,7 +80,7 @@ pub fn argument_words(alloc: Global, method: &Method) -> Result<Vec<Sort>, Alloc
     ensures { IfOk result (λ v. v.items ≡ words.argument_words method.now) }
 {
     let mut arguments = Vec::new(alloc);
-    if method.flags & ACC_STATIC == 0 {
+    if !is_static(method.flags) {
         arguments.push(Sort::Ref)?;
     }
     push_kinds(&mut arguments, method.kinds.args.as_slice())?;

@@ -1,5 +1,6 @@
 mod Arguments
 mod Labels
+mod PoppedWords
 mod ReachedFrames
 mod SameSorts
 mod TransferLists

@@ -4,9 +4,11 @@ ghost use Rattle.fp_facts.specs.Sorts as sorts;
 ghost use Rattle.fp_facts.specs.Transfer as transfer;
 ghost use Rattle.fp_facts.specs.declared.effect.Effect.TheVariants.{Loads, Stores, Counts, Keeps, Shuffles, Takes};
 
-use crate::words::{ends_with, has_unset, same_sort};
-use fp_facts::{Effect, Label, Shuffling};
-use fp_flow::{is_wide, push_words, shuffled, without_top, word_at, word_at_depth, words_of};
+use crate::words::{ends_with, ends_with_operands, same_sort};
+use fp_facts::{Effect, Label, Operands, Shuffling};
+use fp_flow::{
+    is_wide, push_words, shuffled, without_operands, without_top, word_at, word_at_depth, words_of,
+};
 use fp_model::Sort;
 use sqlite_items::Items;
 use std::alloc::{AllocError, Global};
@@ -120,17 +122,17 @@ fn shuffle(
 
 fn take(
     alloc: Global,
-    operands: &[Sort],
+    operands: &Operands,
     results: &[Sort],
     locals: &[Sort],
     stack: &[Sort],
 ) -> Result<Label<Sort>, AllocError>
     ensures { IfOk result (λ l. l ≡ transfer.effect_label (Takes operands.now results.now) locals.now stack.now) }
 {
-    if !ends_with(stack, operands) {
+    if !ends_with_operands(alloc, stack, operands)? {
         return Ok(Label::Bad);
     }
-    let mut left = without_top(alloc, stack, operands.len())?;
+    let mut left = without_operands(alloc, stack, operands)?;
     left.extend_from_slice(results)?;
     frame(alloc, locals, left)
 }
@@ -166,12 +168,8 @@ pub(crate) fn label_of(
         Effect::Counts { at } => kept(alloc, holds_local(locals, *at, Sort::Int), locals, stack),
         Effect::Keeps => kept(alloc, ends_with(stack, &[Sort::Ref]), locals, stack),
         Effect::Shuffles(shuffling) => shuffle(alloc, shuffling, locals, stack),
-        Effect::Takes { operands, results } => take(
-            alloc,
-            operands.as_slice(),
-            results.as_slice(),
-            locals,
-            stack,
-        ),
+        Effect::Takes { operands, results } => {
+            take(alloc, operands, results.as_slice(), locals, stack)
+        }
     }
 }

@@ -1,9 +1,12 @@
 //! Words of frames.
-ghost use Rattle.std.specs.Prelude.{◌≡◌};
+ghost use Rattle.std.specs.Prelude.{◌≡◌, IfOk};
 ghost use Rattle.fp_facts.specs.Sorts as sorts;
 ghost use Rattle.fp_facts.specs.Transfer as transfer;
 
+use fp_facts::Operands;
+use fp_flow::{below_operands, operand_words};
 use fp_model::Sort;
+use std::alloc::{AllocError, Global};
 
 /// Whether two sorts are one.
 pub(crate) fn same_sort(a: Sort, b: Sort) -> bool
@@ -40,4 +43,24 @@ pub(crate) fn ends_with(stack: &[Sort], words: &[Sort]) -> bool
     ensures { result ≡ transfer.ends_with stack.now words.now }
 {
     words.len() <= stack.len() && same_sorts(&stack[stack.len() - words.len()..], words)
+}
+
+/// Whether a stack ends with an instruction's operands. A list of a call's is made only where it is no longer than the stack.
+#[tactic(auto, using(crate::proofs::PoppedWords::ending))]
+pub(crate) fn ends_with_operands(
+    alloc: Global,
+    stack: &[Sort],
+    operands: &Operands,
+) -> Result<bool, AllocError>
+    ensures { IfOk result (λ ends. ends ≡ transfer.ends_with stack.now operands.now) }
+{
+    let (listed, kinds) = operands.parts();
+    if kinds.is_empty() {
+        return Ok(ends_with(stack, listed));
+    }
+    let Some(left) = below_operands(stack.len(), operands) else {
+        return Ok(false);
+    };
+    let words = operand_words(alloc, operands)?;
+    Ok(same_sorts(&stack[left..], words.as_slice()))
 }

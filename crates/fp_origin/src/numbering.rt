@@ -1,16 +1,14 @@
 //! The origins of a method, in ascending order.
 ghost use Rattle.std.specs.Prelude.{◌≡◌, ◌+◌, ◌<◌, ◌^◌, ◌++◌, if◌then◌else◌, Some, length, IfOk, OnOk};
-ghost use Rattle.fp_model.specs.Flags.{is_static};
+ghost use Rattle.fp_model.specs.Flags as flags;
 ghost use Rattle.fp_model.specs.SoundCode.{IsSoundMethod};
 ghost use Rattle.fp_facts.specs.Origins.{origins_of};
 ghost use Rattle.fp_origin.specs.Numbering as defined;
 
 use fp_facts::Origin;
+use fp_model::flags::is_static;
 use fp_model::{Code, Instr, Kind, Method};
 use std::alloc::{AllocError, Global};
-
-/// The access flag of a static member.
-const ACC_STATIC: u16 = 0x0008;
 
 /// All that a word may come from in a method, ascending.
 pub(crate) fn all_origins(
@@ -32,15 +30,15 @@ pub(crate) fn all_origins(
 
 // Adds those of the arguments, the receiver of an instance method first.
 fn push_arguments(origins: &mut Vec<Origin>, method: &Method) -> Result<(), AllocError>
-    requires { length method.now.kinds.args + (if is_static method.now.flags then 0 else 1) < 2 ^ 16 }
+    requires { length method.now.kinds.args + (if flags.is_static method.now.flags then 0 else 1) < 2 ^ 16 }
     ensures { OnOk result (origins.new.items ≡ origins.old.items ++ defined.method_origins method.now) }
 {
     let kinds = method.kinds.args.as_slice();
-    if method.flags & ACC_STATIC == 0 {
+    if is_static(method.flags) {
+        push_params(origins, 0, kinds)
+    } else {
         origins.push(Origin::Param(0))?;
         push_params(origins, 1, kinds)
-    } else {
-        push_params(origins, 0, kinds)
     }
 }
 

@@ -7,11 +7,9 @@ ghost use Rattle.fp_origin.specs.Groups as groups;
 use super::bits::{origin_bits, reference_words};
 use fp_facts::Origin;
 use fp_flow::{sort_of, words_of};
+use fp_model::flags::is_static;
 use fp_model::{Kind, Method};
 use std::alloc::{AllocError, Global};
-
-/// The flag of a static method (JVMS SE 21 table 4.6-A).
-const ACC_STATIC: u16 = 0x0008;
 
 /// Adds the words of arguments from a number on.
 fn push_arguments(
@@ -47,11 +45,11 @@ pub(crate) fn entry_words(
 {
     let mut words = Vec::with_capacity(alloc, max_locals as usize)?;
     let kinds = method.kinds.args.as_slice();
-    if method.flags & ACC_STATIC == 0 {
+    if is_static(method.flags) {
+        push_arguments(alloc, &mut words, group, 0, kinds)?;
+    } else {
         words.push(origin_bits(group, Origin::Param(0)))?;
         push_arguments(alloc, &mut words, group, 1, kinds)?;
-    } else {
-        push_arguments(alloc, &mut words, group, 0, kinds)?;
     }
     Ok(words)
 }

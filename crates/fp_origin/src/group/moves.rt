@@ -1,24 +1,16 @@
 //! How an instruction moves the words of a frame (JVMS SE 21 section 6.5).
-ghost use Rattle.std.specs.Prelude.{◌≡◌, ◌∷◌, [], length, IfOk};
+ghost use Rattle.std.specs.Prelude.{◌≡◌, ◌∷◌, [], IfOk};
 ghost use Rattle.fp_facts.specs.Moves as moves;
-ghost use Rattle.fp_facts.specs.Sorts as sorts;
 ghost use Rattle.fp_facts.specs.Transfer as transfer;
 ghost use Rattle.fp_origin.specs.Groups as groups;
 ghost use Rattle.fp_facts.specs.declared.effect.Effect.TheVariants.{Loads};
 
 use super::transfers::Transfer;
 use fp_facts::{Effect, Label};
-use fp_flow::{is_wide, shuffled, without_top, word_at};
+use fp_flow::{is_wide, shuffled, width, without_operands, without_top, word_at};
 use fp_model::Sort;
 use sqlite_items::Items;
 use std::alloc::{AllocError, Global};
-
-/// How many words a value takes.
-fn width(sort: Sort) -> usize
-    ensures { result ≡ length (sorts.words_of sort) }
-{
-    if is_wide(sort) { 2 } else { 1 }
-}
 
 /// So many words on top of the stack.
 fn top_words(stack: &[u64], count: usize) -> &[u64]
@@ -100,7 +92,7 @@ fn moved_stack(
         Effect::Counts { .. } | Effect::Keeps => Vec::from_slice(alloc, stack),
         Effect::Shuffles(shuffling) => shuffled(alloc, shuffling, stack, 0),
         Effect::Takes { operands, .. } => {
-            let mut left = without_top(alloc, stack, operands.len())?;
+            let mut left = without_operands(alloc, stack, operands)?;
             left.extend_from_slice(made)?;
             Ok(left)
         }
