@@ -1,5 +1,7 @@
+mod LeftWords
 mod OperandWords
 mod Ranges
+mod SameWords
 mod Visits
 pub mod Counting
 pub mod CountedEdges

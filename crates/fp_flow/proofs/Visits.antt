@@ -1,5 +1,5 @@
 -- How following an edge, taking a node off the list and ending a visit keep what stands while a worklist is worked off.
-use Rattle.std.proofs.Common.{◌≡◌, ◌<◌, ◌≤◌, ◌+◌, ◌-◌, ◌*◌, ◌++◌, ◌⊎◌, ℕ, ◌==◌, Bool, true, false, ◌||◌, IsTrue, List, [], ◌∷◌, All, length, slice_index, slice_index_or, slice_set, refl, sym, ap, subst, ◌∙◌, inl, inr, arith, mul_comm}
+use Rattle.std.proofs.Common.{◌≡◌, ◌<◌, ◌≤◌, ◌+◌, ◌-◌, ◌*◌, ◌++◌, ◌⊎◌, ℕ, ◌==◌, Bool, true, false, not, ◌||◌, IsTrue, List, [], ◌∷◌, All, length, slice_index, slice_index_or, slice_set, refl, sym, ap, subst, ◌∙◌, inl, inr, arith, mul_comm}
 use Rattle.std.specs.List.{sum_by}
 use Rattle.std.proofs.Math.ListN.{length-set}
 use Rattle.std.proofs.lemmas.Bool.{cases_lt, cases_eq, eqb-true, false≢true}
@@ -11,6 +11,7 @@ use Rattle.fp_facts.specs.Lattices.{IsBelow, IsAllBelow}
 use Rattle.fp_facts.specs.Dataflow.{Edge, Problem, solution, IsSettled, labels, IsLawful}
 use Rattle.fp_facts.proofs.Orders.{below-refl, below-trans, below-join_left, below-join_right, join-below}
 use Rattle.fp_facts.proofs.Flows.{solution-least, same_as_solution}
+use Rattle.fp_flow.specs.Sent.{IsSent}
 use Rattle.fp_flow.specs.Waiting.{is_listed}
 use Rattle.fp_flow.specs.Working.{IsIndexed, IsWorking, IsFollowed, work_left}
 
@@ -244,3 +245,38 @@ module _ {L : Type 0} (d : Problem L) (laws : IsLawful d) where
         listed = inr listed;
         less = changed-less edge xs ys nodes more lt long fits whole (λ e. changed (is ∙ e ∙ sym old_is)) one;
       }
+
+  -- what a node sends goes along each of its edges
+  pub sent-on : (edge : Edge) (before label : L) → not edge.2 ≡ true → IsSent d false edge.0 before label → label ≡ d.carry edge before
+  sent-on edge before label is sent = sent edge.1 ∙ ap (λ b. d.carry (edge.0, edge.1, b) before) (sym (turned edge.2 is))
+    where
+      turned : (b : Bool) → not b ≡ true → b ≡ false
+      turned true h = sym h
+      turned false h = refl
+
+  pub sent-caught : (edge : Edge) (before label : L) → not edge.2 ≡ false → IsSent d true edge.0 before label → label ≡ d.carry edge before
+  sent-caught edge before label is sent = sent edge.1 ∙ ap (λ b. d.carry (edge.0, edge.1, b) before) (sym (turned edge.2 is))
+    where
+      turned : (b : Bool) → not b ≡ false → b ≡ true
+      turned true h = refl
+      turned false h = sym h
+
+  -- a node on the list needs no further edge
+  pub listed-working : (xs : List L) (nodes : List ℕ) (node at to : ℕ) → IsTrue (is_listed nodes node) → IsWorking d xs nodes node at → IsWorking d xs nodes node to
+  listed-working xs nodes node at to listed w = record {
+    long = w.long;
+    fits = w.fits;
+    first = w.first;
+    within = w.within;
+    settled = λ i e lt from. elim (cases_eq (slice_index_or d.edges i e).0 node) [
+      | inl here ↦ inl (subst (λ n. IsTrue (is_listed nodes n)) (sym here) listed)
+      | inr other ↦ w.settled i e lt (λ start. absurd (other start))
+    ];
+  }
+
+  -- the edges of a node start there
+  pub own-edge : (edges : List Edge) (starts : List ℕ) (node place : ℕ) (e : Edge) → IsIndexed edges d.nodes starts → node < d.nodes →
+      slice_index starts node ≤ place → place < slice_index starts (node + 1) → (slice_index_or edges place e).0 ≡ node
+  own-edge edges starts node place e indexed known from lt =
+      let within : place < length edges = omega (arith, indexed.within (node + 1) (omega arith), lt) in
+      omega (arith, indexed.after node place e (omega arith) from within, indexed.before (node + 1) place e (omega arith) lt)

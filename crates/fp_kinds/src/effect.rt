@@ -4,10 +4,11 @@ ghost use Rattle.fp_facts.specs.Sorts as sorts;
 ghost use Rattle.fp_facts.specs.Transfer as transfer;
 ghost use Rattle.fp_facts.specs.declared.effect.Effect.TheVariants.{Loads, Stores, Counts, Keeps, Shuffles, Takes};
 
-use crate::words::{ends_with, ends_with_operands, same_sort};
+use crate::words::{ends_with, ends_with_operands};
 use fp_facts::{Effect, Label, Operands, Shuffling};
 use fp_flow::{
-    is_wide, push_words, shuffled, without_operands, without_top, word_at, word_at_depth, words_of,
+    is_wide, push_words, same_sort, shuffled, without_operands, without_top, word_at,
+    word_at_depth, words_of,
 };
 use fp_model::Sort;
 use sqlite_items::Items;

@@ -4,7 +4,6 @@
 mod effect;
 mod frame;
 mod inference;
-mod join;
 mod laws;
 mod problem;
 mod transfer;

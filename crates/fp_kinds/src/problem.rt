@@ -3,10 +3,9 @@ ghost use Rattle.std.specs.Prelude.{◌≡◌, ◌<◌, ◌≤◌, length, All, 
 ghost use Rattle.fp_facts.specs.Transfer.{label_after};
 ghost use Rattle.fp_kinds.specs.Transfers.{transfers_of};
 
-use crate::join::join_label;
 use crate::transfer::{Transfer, after, to_handler};
 use fp_facts::Label;
-use fp_flow::Dataflow;
+use fp_flow::{Dataflow, join_label};
 use fp_model::{Code, Sort};
 use std::alloc::{AllocError, Global};
 
@@ -51,28 +50,38 @@ impl<'c> Dataflow for KindsProblem<'c> {
 
     ghost lawful = { λ p. kinds-lawful p.code.now p.arguments.now p.results.now p.edges.now p.some p.room p.within };
 
-    fn carried(
+    fn behind(
         &self,
         alloc: Global,
-        edge: (u32, u32, bool),
-        from: &Label<Sort>,
+        node: u32,
+        before: &Label<Sort>,
     ) -> Result<Label<Sort>, AllocError> {
-        let behind = label_behind(
+        label_behind(
             alloc,
             self.code,
             self.results,
             self.transfers,
-            edge.0 as usize,
-            from,
-        )?;
-        if edge.2 {
-            to_handler(alloc, from, &behind)
-        } else {
-            Ok(behind)
-        }
+            node as usize,
+            before,
+        )
     }
 
-    fn join(&self, into: &mut Label<Sort>, more: Label<Sort>) -> bool {
-        join_label(into, more)
+    fn caught(
+        &self,
+        alloc: Global,
+        _node: u32,
+        before: &Label<Sort>,
+        behind: &Label<Sort>,
+    ) -> Result<Label<Sort>, AllocError> {
+        to_handler(alloc, before, behind)
+    }
+
+    fn join(
+        &self,
+        alloc: Global,
+        into: &mut Label<Sort>,
+        more: &Label<Sort>,
+    ) -> Result<bool, AllocError> {
+        join_label(alloc, into, more)
     }
 }

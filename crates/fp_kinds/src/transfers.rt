@@ -7,7 +7,7 @@ use fp_flow::effect;
 use fp_model::{Code, Sort};
 use std::alloc::{AllocError, Global};
 
-/// Those of a method with results of these words, made once: each is used for every edge.
+/// Those of a method with results of these words, made once: each is used at every visit.
 #[tactic(auto, unfolding(crate::specs::Transfers::transfers_behind))]
 pub(crate) fn transfers(
     alloc: Global,

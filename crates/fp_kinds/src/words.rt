@@ -4,16 +4,9 @@ ghost use Rattle.fp_facts.specs.Sorts as sorts;
 ghost use Rattle.fp_facts.specs.Transfer as transfer;
 
 use fp_facts::Operands;
-use fp_flow::{below_operands, operand_words};
+use fp_flow::{below_operands, operand_words, same_sort};
 use fp_model::Sort;
 use std::alloc::{AllocError, Global};
-
-/// Whether two sorts are one.
-pub(crate) fn same_sort(a: Sort, b: Sort) -> bool
-    ensures { result ≡ sorts.same_sort a b }
-{
-    a == b
-}
 
 /// Whether words are the same, one by one, and as many.
 #[tactic(auto, using(crate::proofs::SameSorts::comparing))]

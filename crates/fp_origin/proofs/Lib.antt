@@ -1,4 +1,3 @@
-mod CoveredWords
 mod GroupBits
 mod GroupMarks
 mod LawfulGroups

@@ -1,5 +1,5 @@
 -- The origins of a code by groups of at most 64: a word of 64 bits tells which origins of the group a frame's word may come from.
-use Rattle.std.specs.Prelude.{◌≡◌, ℕ, ◌+◌, ◌-◌, ◌*◌, ◌==◌, nat_lt, Bool, true, false, List, [], ◌∷◌, ◌++◌, length, map, slice_get, slice_index_or, Option, Some, None, if◌then◌else◌, bit_or}
+use Rattle.std.specs.Prelude.{◌≡◌, ℕ, ◌+◌, ◌-◌, ◌*◌, ◌==◌, nat_lt, Bool, true, false, List, [], ◌∷◌, ◌++◌, length, map, slice_get, slice_index_or, Option, Some, None, if◌then◌else◌}
 use Rattle.std.specs.Int.{bit_at}
 use Rattle.fp_model.specs.declared.class.Code.{Code}
 use Rattle.fp_model.specs.declared.class.Method.{Method}
@@ -64,12 +64,6 @@ transfer_of group i = record { effect = effect_of i.1; made = map (word_bits gro
 abbrev pub words_problem : Code → List Origin → (arguments : List ℕ) → List Edge → Problem (Label ℕ)
 words_problem code group arguments edges =
     moves_problem words64 0 (bits_in group origin.Other) code (λ i. map (word_bits group) (made_words i.0 i.1)) arguments edges
-
--- each word has all bits of the other one at its place
-abbrev pub covers : List ℕ → List ℕ → Bool
-covers [] more = true
-covers (x ∷ words) [] = true
-covers (x ∷ words) (y ∷ more) = if bit_or x y == x then covers words more else false
 
 -- the local variable at a place after words were written over those from another place on
 abbrev pub written_word : (at place : ℕ) → List ℕ → ℕ → ℕ

@@ -7,7 +7,6 @@ ghost use Rattle.fp_origin.specs.Groups.{AreGroupLabels};
 
 mod arguments;
 mod bits;
-mod join;
 mod moves;
 mod problem;
 mod transfers;

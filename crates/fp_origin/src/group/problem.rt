@@ -6,11 +6,10 @@ ghost use Rattle.fp_facts.specs.Origins.{made_words};
 ghost use Rattle.fp_facts.specs.declared.origin.Origin.TheVariants.{Other};
 ghost use Rattle.fp_origin.specs.Groups.{bits_in, transfer_of, word_bits, words_problem};
 
-use super::join::join_label;
 use super::moves::{caught_label, moved};
 use super::transfers::Transfer;
 use fp_facts::{Label, Origin};
-use fp_flow::Dataflow;
+use fp_flow::{Dataflow, join_label};
 use fp_model::Code;
 use std::alloc::{AllocError, Global};
 
@@ -53,27 +52,38 @@ impl<'c> Dataflow for OriginsProblem<'c> {
 
     ghost lawful = { λ p. p.laws };
 
-    fn carried(
+    fn behind(
         &self,
         alloc: Global,
-        edge: (u32, u32, bool),
-        from: &Label<u64>,
+        node: u32,
+        before: &Label<u64>,
     ) -> Result<Label<u64>, AllocError> {
-        if edge.2 {
-            caught_label(alloc, self.caught, from)
-        } else {
-            label_behind(
-                alloc,
-                self.code,
-                self.group,
-                self.transfers,
-                edge.0 as usize,
-                from,
-            )
-        }
+        label_behind(
+            alloc,
+            self.code,
+            self.group,
+            self.transfers,
+            node as usize,
+            before,
+        )
     }
 
-    fn join(&self, into: &mut Label<u64>, more: Label<u64>) -> bool {
-        join_label(into, more)
+    fn caught(
+        &self,
+        alloc: Global,
+        _node: u32,
+        before: &Label<u64>,
+        _behind: &Label<u64>,
+    ) -> Result<Label<u64>, AllocError> {
+        caught_label(alloc, self.caught, before)
+    }
+
+    fn join(
+        &self,
+        alloc: Global,
+        into: &mut Label<u64>,
+        more: &Label<u64>,
+    ) -> Result<bool, AllocError> {
+        join_label(alloc, into, more)
     }
 }

@@ -33,7 +33,7 @@ fn transfer_at(
     Ok(Transfer { effect, made })
 }
 
-/// Those of a code, made once: each is used for every edge.
+/// Those of a code, made once: each is used at every visit.
 pub(crate) fn transfers(
     alloc: Global,
     group: &[Origin],

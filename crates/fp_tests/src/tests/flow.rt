@@ -95,19 +95,24 @@ impl<'p> Dataflow for Reached<'p> {
 
     ghost lawful = { λ p. reached-lawful p.edges.now p.first.now p.within };
 
-    fn carried(
-        &self,
-        _alloc: Global,
-        edge: (u32, u32, bool),
-        from: &bool,
-    ) -> Result<bool, AllocError> {
-        Ok(!edge.2 && *from)
+    fn behind(&self, _alloc: Global, _node: u32, before: &bool) -> Result<bool, AllocError> {
+        Ok(*before)
     }
 
-    fn join(&self, into: &mut bool, more: bool) -> bool {
-        let changed = more && !*into;
-        *into = *into || more;
-        changed
+    fn caught(
+        &self,
+        _alloc: Global,
+        _node: u32,
+        _before: &bool,
+        _behind: &bool,
+    ) -> Result<bool, AllocError> {
+        Ok(false)
+    }
+
+    fn join(&self, _alloc: Global, into: &mut bool, more: &bool) -> Result<bool, AllocError> {
+        let changed = *more && !*into;
+        *into = *into || *more;
+        Ok(changed)
     }
 }
 

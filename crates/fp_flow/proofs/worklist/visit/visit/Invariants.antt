@@ -1,4 +1,6 @@
-use Rattle.std.proofs.Common.{◌≡◌, ◌≤◌, length}
+use Rattle.std.proofs.Common.{◌≡◌, ◌≤◌, false, length}
+use Rattle.fp_facts.specs.Dataflow.{labels}
+use Rattle.fp_flow.specs.Sent.{IsSent}
 use Rattle.fp_flow.specs.Working.{IsWorking, work_left}
 use Rattle.fp_flow.proofs.worklist.visit.visit.Given as goal
 
@@ -9,4 +11,5 @@ invariant-loop-place g l =
       count : length l.work.waiting.items ≡ d.nodes;
       working : IsWorking d l.found.items l.work.nodes.items l.node l.place;
       less : work_left d l.found.items l.work.nodes.items ≤ work_left d l.initial.found.items l.initial.work.nodes.items;
+      sent : IsSent d false l.node (labels d l.found.items l.node) l.behind;
     }
