@@ -6,15 +6,48 @@ ghost use Rattle.fp_system.specs.Java.{arguments, class_cells, field_cells, is_r
 ghost use Rattle.fp_system.specs.Kinds.{AreBefore, method_bits, method_has, rank};
 
 use fp_cells::{Cells, Entity, KindId, count_places};
-use fp_model::flags::is_static;
+use fp_model::flags::{ACC_ABSTRACT, ACC_INTERFACE, is_static};
 use fp_model::{Class, ClassId, ClassSet, Kind, Method, MethodId};
 use std::alloc::{AllocError, Global};
 
-/// The access flags of classes that have no instances of their own: ACC_INTERFACE and ACC_ABSTRACT (JVMS SE 21 section 4.1).
-pub const NOT_CONCRETE: u16 = 0x0600;
+/// A kind of property of classes.
+#[derive(Clone, Copy, Debug, PartialEq, Eq)]
+pub struct ClassProperty {
+    /// Its kind.
+    pub kind: KindId,
+    /// How many bits it has.
+    pub bits: u32,
+    /// Access flags (JVMS SE 21 section 4.1). A class with one of them has no such property.
+    pub without: u16,
+}
 
-/// The access flag of interfaces: ACC_INTERFACE.
-pub const INTERFACE: u16 = 0x0200;
+/// Each class has it.
+pub const DECLARED: ClassProperty = ClassProperty {
+    kind: KindId::Declared,
+    bits: 1,
+    without: 0,
+};
+
+/// A class has it that may be the own class of objects.
+pub const INST: ClassProperty = ClassProperty {
+    kind: KindId::Inst,
+    bits: 1,
+    without: ACC_INTERFACE | ACC_ABSTRACT,
+};
+
+/// A class has it that is no interface.
+pub const IMMUT: ClassProperty = ClassProperty {
+    kind: KindId::Immut,
+    bits: 2,
+    without: ACC_INTERFACE,
+};
+
+/// Each class has it.
+pub const TIMMUT: ClassProperty = ClassProperty {
+    kind: KindId::Timmut,
+    bits: 2,
+    without: 0,
+};
 
 /// The most parameters for which the bits of a method's cells have numbers. A class file has far fewer.
 const MOST_PARAMETERS: usize = 0xFFFF_0000;
@@ -24,34 +57,32 @@ pub fn make_cells(alloc: Global, set: &ClassSet) -> Result<Cells, AllocError>
     ensures { IfOk result (λ cells. cells ≡ java_cells set.now.classes) }
 {
     let mut cells = Cells::new(alloc);
-    add_class_cells(set, KindId::Declared, 1, 0, &mut cells)?;
-    add_class_cells(set, KindId::Inst, 1, NOT_CONCRETE, &mut cells)?;
+    add_class_cells(set, DECLARED, &mut cells)?;
+    add_class_cells(set, INST, &mut cells)?;
     add_method_cells(set, KindId::Reach, &mut cells)?;
     add_field_cells(set, KindId::Assign, 1, &mut cells)?;
-    add_class_cells(set, KindId::Immut, 2, INTERFACE, &mut cells)?;
-    add_class_cells(set, KindId::Timmut, 2, 0, &mut cells)?;
+    add_class_cells(set, IMMUT, &mut cells)?;
+    add_class_cells(set, TIMMUT, &mut cells)?;
     add_method_cells(set, KindId::Fresh, &mut cells)?;
     add_method_cells(set, KindId::Leak, &mut cells)?;
     add_method_cells(set, KindId::Purity, &mut cells)?;
     Ok(cells)
 }
 
-// Adds a cell of the kind for each class that has none of these flags.
+// Adds a cell for each class that has the property.
 fn add_class_cells(
     set: &ClassSet,
-    kind: KindId,
-    bits: u32,
-    without: u16,
+    property: ClassProperty,
     cells: &mut Cells,
 ) -> Result<(), AllocError>
-    requires { AreBefore (rank kind) cells.old }
-    ensures added { OnOk result (cells.new ≡ cells.old ++ class_cells kind bits (lacks without) 0 set.now.classes) }
-    ensures order { OnOk result (AreBefore (rank kind + 1) cells.new) }
+    requires { AreBefore (rank property.kind) cells.old }
+    ensures added { OnOk result (cells.new ≡ cells.old ++ class_cells property.kind property.bits (lacks property.without) 0 set.now.classes) }
+    ensures order { OnOk result (AreBefore (rank property.kind + 1) cells.new) }
 {
     let (classes, _, _) = set.counts();
     for id in 0..classes {
         let class = set.class(id);
-        add_class_cell(class, id, kind, bits, without, cells)?;
+        add_class_cell(class, id, property, cells)?;
     }
     Ok(())
 }
@@ -59,19 +90,17 @@ fn add_class_cells(
 fn add_class_cell(
     class: &Class,
     id: ClassId,
-    kind: KindId,
-    bits: u32,
-    without: u16,
+    property: ClassProperty,
     cells: &mut Cells,
 ) -> Result<(), AllocError>
-    requires { has_cell cells.old kind (Entity.Class id) ≡ false }
+    requires { has_cell cells.old property.kind (Entity.Class id) ≡ false }
     ensures { OnOk result (cells.new ≡ cells.old
-        ++ (if lacks without class.now then record { kind = kind; entity = Entity.Class id; bits = bits } ∷ [] else [])) }
+        ++ (if lacks property.without class.now then record { kind = property.kind; entity = Entity.Class id; bits = property.bits } ∷ [] else [])) }
 {
-    if class.flags & without != 0 {
+    if class.flags & property.without != 0 {
         return Ok(());
     }
-    add_cell(kind, Entity::Class(id), bits, cells)
+    add_cell(property.kind, Entity::Class(id), property.bits, cells)
 }
 
 // Adds a cell of the kind for each field.

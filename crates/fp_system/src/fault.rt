@@ -2,7 +2,7 @@ use fp_model::LimitName;
 use std::alloc::{AllocError, AllocFailed};
 
 /// Why there is no system for a set and the words of a run.
-#[derive(Debug, Drop)]
+#[derive(Drop)]
 pub enum SystemFault {
     /// There is no analysis of this name.
     Analysis(String),

@@ -7,7 +7,7 @@ ghost use Rattle.fp_system.specs.Java.{class_cells, field_cells, java_cells, lac
 ghost use Rattle.fp_system.specs.Kinds.{method_bits, method_has};
 ghost use Rattle.fp_system.specs.Surveys.{HasSurveyed, told_places};
 
-use crate::cells::{INTERFACE, NOT_CONCRETE, count_bits, has_method_cell};
+use crate::cells::{ClassProperty, DECLARED, IMMUT, INST, TIMMUT, count_bits, has_method_cell};
 use crate::limits::MOST_PLACES;
 use crate::words::shown::{ShownItems, mark};
 use fp_base::Names;
@@ -35,35 +35,34 @@ pub fn survey_cells(alloc: Global, set: &ClassSet, show: &ShownItems) -> Result<
         found: Names::new(alloc),
         text: Vec::new(alloc),
     };
-    survey_classes(alloc, set, KindId::Declared, 1, 0, show, &mut survey)?;
-    survey_classes(alloc, set, KindId::Inst, 1, NOT_CONCRETE, show, &mut survey)?;
+    survey_classes(alloc, set, DECLARED, show, &mut survey)?;
+    survey_classes(alloc, set, INST, show, &mut survey)?;
     survey_methods(alloc, set, KindId::Reach, show, &mut survey)?;
     survey_fields(alloc, set, KindId::Assign, 1, show, &mut survey)?;
-    survey_classes(alloc, set, KindId::Immut, 2, INTERFACE, show, &mut survey)?;
-    survey_classes(alloc, set, KindId::Timmut, 2, 0, show, &mut survey)?;
+    survey_classes(alloc, set, IMMUT, show, &mut survey)?;
+    survey_classes(alloc, set, TIMMUT, show, &mut survey)?;
     survey_methods(alloc, set, KindId::Fresh, show, &mut survey)?;
     survey_methods(alloc, set, KindId::Leak, show, &mut survey)?;
     survey_methods(alloc, set, KindId::Purity, show, &mut survey)?;
     Ok(survey)
 }
 
-// Looks at a cell of the kind for each class that has none of these flags.
+// Looks at the cell of each class that has the property.
 fn survey_classes(
     alloc: Global,
     set: &ClassSet,
-    kind: KindId,
-    bits: u32,
-    without: u16,
+    property: ClassProperty,
     show: &ShownItems,
     survey: &mut Survey,
 ) -> Result<(), AllocError>
     ensures { OnOk result ((before : List Cell) → HasSurveyed set.now show.now.items.texts survey.old.places survey.old.found before
-        → HasSurveyed set.now show.now.items.texts survey.new.places survey.new.found (before ++ class_cells kind bits (lacks without) 0 set.now.classes)) }
+        → HasSurveyed set.now show.now.items.texts survey.new.places survey.new.found
+        (before ++ class_cells property.kind property.bits (lacks property.without) 0 set.now.classes)) }
 {
     let (classes, _, _) = set.counts();
     for id in 0..classes {
         let class = set.class(id);
-        survey_class(alloc, set, class, id, kind, bits, without, show, survey)?;
+        survey_class(alloc, set, class, id, property, show, survey)?;
     }
     Ok(())
 }
@@ -73,20 +72,19 @@ fn survey_class(
     set: &ClassSet,
     class: &Class,
     id: ClassId,
-    kind: KindId,
-    bits: u32,
-    without: u16,
+    property: ClassProperty,
     show: &ShownItems,
     survey: &mut Survey,
 ) -> Result<(), AllocError>
     requires { IsEntityOf set.now (Entity.Class id) }
     ensures { OnOk result ((before : List Cell) → HasSurveyed set.now show.now.items.texts survey.old.places survey.old.found before
         → HasSurveyed set.now show.now.items.texts survey.new.places survey.new.found
-        (before ++ (if lacks without class.now then record { kind = kind; entity = Entity.Class id; bits = bits } ∷ [] else []))) }
+        (before ++ (if lacks property.without class.now then record { kind = property.kind; entity = Entity.Class id; bits = property.bits } ∷ [] else []))) }
 {
-    if class.flags & without != 0 {
+    if class.flags & property.without != 0 {
         return Ok(());
     }
+    let ClassProperty { kind, bits, .. } = property;
     survey_cell(alloc, set, kind, Entity::Class(id), bits, show, survey)
 }
 

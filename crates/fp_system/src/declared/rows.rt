@@ -8,12 +8,12 @@ ghost use Rattle.fp_system.specs.ClassEquations.{class_task, class_tasks, extend
 
 use crate::declared::ClassTask;
 use fp_cells::{Cells, Entity, KindId};
+use fp_model::flags::{ACC_FINAL, ACC_STATIC};
 use fp_model::{Class, ClassId, ClassSet, name_text};
 use std::alloc::{AllocError, Global};
 
-/// The access flags of a field that no object has of its own, or that is written once at most: ACC_STATIC and ACC_FINAL
-/// (JVMS SE 21 section 4.5).
-const STATIC_OR_FINAL: u16 = 0x0018;
+/// The access flags of a field that no object has of its own, or that is written once at most (JVMS SE 21 section 4.5).
+const STATIC_OR_FINAL: u16 = ACC_STATIC | ACC_FINAL;
 
 /// The name of the class that every other one has above it.
 const OBJECT: &[u8] = b"java/lang/Object";

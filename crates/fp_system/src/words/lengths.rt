@@ -6,7 +6,7 @@ ghost use Rattle.fp_cells.specs.Entities.{IsEntityOf, class_text, entity_text};
 
 use fp_base::Names;
 use fp_cells::Entity;
-use fp_model::{ClassSet, FieldId, MethodId};
+use fp_model::{ClassSet, FieldId, MethodId, name_text};
 
 /// Whether a name in the text of the entity is longer than this, and so the text is. Files choose their names, and a text
 /// may be a thousand times as long as any that is looked for.
@@ -58,8 +58,5 @@ fn is_longer_method(set: &ClassSet, id: MethodId, most: usize) -> bool
 fn has_longer(names: &Names, number: u32, most: usize) -> bool
     ensures { result ≡ true → most < length (text_of names.now number) }
 {
-    match names.text(number) {
-        Some(text) => text.len() > most,
-        None => false,
-    }
+    name_text(names, number).len() > most
 }

@@ -7,4 +7,4 @@ use Rattle.fp_system.proofs.survey.survey_classes.Given as goal
 abbrev pub invariant-loop-id : goal.invariant-loop-id
 invariant-loop-id l =
     (before : List Cell) → HasSurveyed l.set l.show.items.texts l.fn.survey.places l.fn.survey.found before
-    → HasSurveyed l.set l.show.items.texts l.survey.places l.survey.found (before ++ class_cells l.kind l.bits (lacks l.without) 0 (take l.id l.set.classes))
+    → HasSurveyed l.set l.show.items.texts l.survey.places l.survey.found (before ++ class_cells l.property.kind l.property.bits (lacks l.property.without) 0 (take l.id l.set.classes))
