@@ -1,6 +1,7 @@
 mod ArgumentWords
 mod CheckedLocals
 mod CheckedCodes
+mod CodesOver
 pub mod ClassSpelled
 pub mod Facts
 pub mod Heads
@@ -14,6 +15,7 @@ mod NamedCode
 mod NamedMethods
 mod NamedParts
 mod Numberings
+mod PlainOver
 mod OneCode
 mod OneDescr
 mod Seen

@@ -6,7 +6,7 @@ use Rattle.fp_model.specs.declared.raw.attribute.RawIns.{RawIns}
 use Rattle.fp_model.specs.declared.raw.pool.Entry.{Entry}
 use Rattle.fp_model.specs.Spelling.{spelled_ins}
 use Rattle.fp_model.proofs.LongerTables.{Keeps}
-pub use Rattle.fp_ops.proofs.LongerInstrs.{descr_kept, IsInstrOf-kept}
+pub use Rattle.fp_ops.proofs.LongerInstrs.{IsInstrOf-kept}
 use Rattle.fp_class.specs.MethodCode.{AreInstrsFrom}
 
 pub AreInstrsFrom-kept : (names longer : List (List ℕ)) (kept : Keeps names longer) (entries : List Entry) (boots : List BootRow) (pc : ℕ) (instrs : List (ℕ × Instr)) (code : List RawIns) → AreInstrsFrom names entries boots pc instrs code → AreInstrsFrom longer entries boots pc instrs code

@@ -13,13 +13,14 @@ use Rattle.fp_model.specs.declared.raw.RawMember.{RawMember}
 use Rattle.fp_model.specs.ClassSet.{IsMethodOver}
 use Rattle.fp_model.specs.Descriptor.{is_method_descriptor, IsDescrOf}
 use Rattle.fp_model.specs.Entries.{text_at}
-use Rattle.fp_model.proofs.LongerTables.{Keeps}
+use Rattle.fp_model.proofs.LongerTables.{descr_kept, Keeps}
 use Rattle.fp_model.proofs.Interned.{Keeps-then}
 use Rattle.fp_class.specs.Classes.{IsCodeAmong, IsMethodOf}
 use Rattle.fp_class.specs.MethodCode.{IsCodeOf, IsGuardOf}
 use Rattle.fp_class.specs.Methods.{code_of}
 use Rattle.fp_class.specs.Naming.{is_sound_method, IsNamedMethod}
-use Rattle.fp_class.proofs.LongerInstrs.{descr_kept, AreInstrsFrom-kept}
+use Rattle.fp_class.proofs.CodesOver.{any_code_over}
+use Rattle.fp_class.proofs.LongerInstrs.{AreInstrsFrom-kept}
 use Rattle.fp_class.proofs.NamedCode.{IsGuardOf-kept}
 use Rattle.fp_class.proofs.NamedParts.{texts_of, within, AllZip-to}
 
@@ -79,6 +80,7 @@ method_over names entries boots m member is = record {
   name = within names m.name is.name is.name_number;
   descr = within names m.descr is.descr is.descr_number;
   kinds = subst (λ text. IsDescrOf names text m.kinds) (sym (ap (λ o. unwrap_or o []) is.descr_number)) is.kinds;
+  code = any_code_over names entries boots m.code (code_of member.attributes) is.code;
 }
 
 pub method_of : (names : List (List ℕ)) (entries : List Entry) (boots : List BootRow) (m : Method) (member : RawMember) → IsNamedMethod names entries boots m member → IsMethodOf names entries boots m member

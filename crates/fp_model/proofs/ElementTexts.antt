@@ -1,13 +1,15 @@
 -- What the text of an element's type has: its letter, or its class name.
-use Rattle.std.proofs.Common.{◌≡◌, ◌≢◌, ℕ, suc, ◌-◌, ◌<◌, true, ◌&&◌, cond, List, [], ◌∷◌, ◌++◌, length, take, drop, get_or, replicate, codes, refl, sym, ap, ◌∙◌, arith, length-append}
-use Rattle.std.specs.Prelude.{◌==◌, nat_lt}
+use Rattle.std.proofs.Common.{◌≡◌, ◌≢◌, ℕ, suc, ◌-◌, ◌<◌, true, ◌&&◌, cond, List, [], ◌∷◌, ◌++◌, Some, None, length, take, drop, get_or, replicate, codes, refl, sym, ap, ◌∙◌, arith, length-append}
+use Rattle.std.specs.Prelude.{◌==◌, nat_le, nat_lt, slice_get, unwrap_or}
 use Rattle.std.specs.List.{list_all}
 use Rattle.std.proofs.lemmas.Bool.{and_parts, and_from, eqb-true, ne_eqb, ltb-true, lt-ltb}
+use Rattle.std.proofs.lemmas.Option.{slice_get_within}
 use Rattle.fp_model.specs.declared.kind.Elem.{Elem}
+use Rattle.fp_model.specs.declared.kind.Elem.TheVariants as elem
 use Rattle.fp_model.specs.declared.kind.Kind.TheVariants as kind
-use Rattle.fp_model.specs.Descriptor.{is_among, is_element, is_ended_name, is_field_descriptor, is_name_byte, dimensions, element_names, element_text, kind_text, IsKindOf}
+use Rattle.fp_model.specs.Descriptor.{is_among, is_element, is_ended_name, is_field_descriptor, is_name_byte, dimensions, element_names, element_text, is_kind, is_proper, kind_text, text_of, IsKindOf}
 use Rattle.fp_model.proofs.EndedNames.{front_and_last, is_ended_name-push}
-use Rattle.fp_model.proofs.ArrayTypes.{brackets_and_rest}
+use Rattle.fp_model.proofs.ArrayTypes.{brackets_and_rest, is_field_descriptor-brackets}
 use Rattle.std.proofs.Math.Seq.{take-append_seam}
 
 -- ---- a name and its ';'
@@ -84,3 +86,17 @@ IsKindOf-array names text dims element some count passes is =
       written = written;
       kind = and_from (nat_lt 0 dims) _ (lt-ltb 0 dims some) (ap is_field_descriptor written ∙ passes);
     }
+
+some_within : (names : List (List ℕ)) (n : ℕ) → 0 < length (text_of names n) → n < length names
+some_within names n some =
+    elim (slice_get names n) as (λ o. slice_get names n ≡ o → 0 < length (unwrap_or o []) → n < length names) [
+      | Some text ↦ λ at some. slice_get_within names n text at
+      | None ↦ λ at some. absurd (omega arith)
+    ] refl some
+
+-- the name of a class that a descriptor says is of the table
+pub class_within : (names : List (List ℕ)) (n : ℕ) → is_kind names (kind.Class n) ≡ true → n < length names
+class_within names n is =
+    let text = element_text names (elem.Class n) in
+    let passes = (and_parts (is_proper (kind.Class n)) (is_field_descriptor text) is).1 in
+    some_within names n (name_parts (text_of names n) 59 (and_parts (nat_le 0 255) (is_element text) (sym (is_field_descriptor-brackets 0 text refl) ∙ passes)).1).0

@@ -3,6 +3,7 @@ mod Finding
 mod FirstText
 mod Indexing
 mod Members
+mod MethodsOver
 mod Namesakes
 mod Naming
 mod Owners
@@ -17,6 +18,7 @@ pub mod Crowded
 pub mod ElementTexts
 pub mod EndedNames
 pub mod Interned
+pub mod LongerCodes
 pub mod LongerTables
 pub mod Many
 pub mod MethodGrammar

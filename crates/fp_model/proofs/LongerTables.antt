@@ -1,12 +1,15 @@
 -- What is said over a table of names holds over a longer one.
-use Rattle.std.proofs.Common.{◌≡◌, ℕ, ◌<◌, true, ◌&&◌, List, [], ◌∷◌, ◌++◌, Some, None, length, replicate, refl, sym, ap, ◌∙◌, arith}
-use Rattle.std.specs.Prelude.{nat_le, slice_get, unwrap_or}
-use Rattle.std.proofs.lemmas.Bool.{and_parts}
+use Rattle.std.proofs.Common.{◌≡◌, ℕ, ◌<◌, true, ◌&&◌, List, [], ◌∷◌, ◌++◌, Option, Some, None, length, get_or, replicate, refl, sym, ap, ◌∙◌, arith}
+use Rattle.std.specs.Prelude.{nat_le, slice_get, unwrap_or, IfSome, IsTrue}
+use Rattle.std.specs.List.{flat_map, list_all}
+use Rattle.std.proofs.lemmas.Bool.{and_from, and_parts}
+use Rattle.std.proofs.lemmas.Option.{slice_get-get_or, slice_get_within}
+use Rattle.fp_model.specs.declared.kind.Descr.{Descr}
 use Rattle.fp_model.specs.declared.kind.Kind.{Kind}
 use Rattle.fp_model.specs.declared.kind.Kind.TheVariants as kind
 use Rattle.fp_model.specs.declared.kind.Elem.{Elem}
 use Rattle.fp_model.specs.declared.kind.Elem.TheVariants as elem
-use Rattle.fp_model.specs.Descriptor.{element_text, is_element, is_field_descriptor, is_proper, kind_text, text_of, IsKindOf}
+use Rattle.fp_model.specs.Descriptor.{element_text, is_element, is_field_descriptor, is_kind, is_proper, kind_text, result_text, text_of, IsDescrOf, IsKindOf}
 use Rattle.fp_model.proofs.ArrayTypes.{is_field_descriptor-brackets}
 use Rattle.fp_model.proofs.ElementTexts.{name_parts}
 
@@ -15,6 +18,23 @@ pub record Keeps (names longer : List (List ℕ)) : Type 0 where
   pub stands : (i : ℕ) (text : List ℕ) → slice_get names i ≡ Some text → slice_get longer i ≡ Some text
 
 module _ (names longer : List (List ℕ)) (kept : Keeps names longer) where
+  -- ---- numbers
+
+  there : (n : ℕ) → n < length names → slice_get longer n ≡ Some (get_or names n [])
+  there n within = kept.stands n (get_or names n []) (slice_get-get_or names n [] within)
+
+  -- a number of the table stands for the same text
+  pub same_at : (n : ℕ) → n < length names → slice_get longer n ≡ slice_get names n
+  same_at n within = there n within ∙ sym (slice_get-get_or names n [] within)
+
+  pub within_kept : (n : ℕ) → n < length names → n < length longer
+  within_kept n within = slice_get_within longer n (get_or names n []) (there n within)
+
+  pub text_same : (n : ℕ) → n < length names → text_of longer n ≡ text_of names n
+  text_same n within = ap (λ o. unwrap_or o []) (same_at n within)
+
+  -- ---- kinds
+
   pub text_kept : (n : ℕ) → 0 < length (text_of names n) → text_of longer n ≡ text_of names n
   text_kept n some =
       elim (slice_get names n) as (λ o. slice_get names n ≡ o → 0 < length (unwrap_or o []) → unwrap_or (slice_get longer n) [] ≡ unwrap_or o []) [
@@ -47,4 +67,37 @@ module _ (names longer : List (List ℕ)) (kept : Keeps names longer) where
       record {
         written = same ∙ is.written;
         kind = ap (λ t. is_proper k && is_field_descriptor t) same ∙ is.kind;
+      }
+
+  pub is_kind-kept : (k : Kind) → is_kind names k ≡ true → (kind_text longer k ≡ kind_text names k) × (is_kind longer k ≡ true)
+  is_kind-kept k is =
+      let same = IsKindOf-kept (kind_text names k) k (record { written = refl; kind = is }) in
+      (same.written, same.kind)
+
+  -- ---- method descriptors
+
+  parameters_kept : (ks : List Kind) → list_all (is_kind names) ks ≡ true → (flat_map (kind_text longer) ks ≡ flat_map (kind_text names) ks) × (list_all (is_kind longer) ks ≡ true)
+  parameters_kept [] is = (refl, refl)
+  parameters_kept (k ∷ ks) is =
+      let parts = and_parts (is_kind names k) (list_all (is_kind names) ks) is in
+      let first = is_kind-kept k parts.0 in
+      let rest = parameters_kept ks parts.1 in
+      (ap (λ t. t ++ flat_map (kind_text longer) ks) first.0 ∙ ap (λ t. kind_text names k ++ t) rest.0, and_from (is_kind longer k) (list_all (is_kind longer) ks) first.1 rest.1)
+
+  result_kept : (r : Option Kind) → IfSome r (λ k. IsTrue (is_kind names k)) → (result_text longer r ≡ result_text names r) × IfSome r (λ k. IsTrue (is_kind longer k))
+  result_kept None is = (refl, tt)
+  result_kept (Some k) is = is_kind-kept k is
+
+  -- kinds say the same text
+  pub descr_kept : (text : List ℕ) (d : Descr) → IsDescrOf names text d → IsDescrOf longer text d
+  descr_kept text d is =
+      let args = parameters_kept d.args is.args in
+      let result = result_kept d.result is.result in
+      record {
+        written =
+            ap (λ t. 40 ∷ (t ++ (41 ∷ result_text longer d.result))) args.0
+            ∙ ap (λ t. 40 ∷ (flat_map (kind_text names) d.args ++ (41 ∷ t))) result.0
+            ∙ is.written;
+        args = args.1;
+        result = result.1;
       }

@@ -10,6 +10,7 @@ use Rattle.fp_model.specs.declared.class_set.fault.SetFault.TheVariants as fault
 use Rattle.fp_base.specs.Escape.{escaped_name}
 use Rattle.fp_base.specs.Names.{AreDistinct}
 use Rattle.fp_base.specs.Order.{is_before}
+use Rattle.fp_model.specs.CodeOver.{IsCodeOver}
 use Rattle.fp_model.specs.Descriptor.{text_of, IsKindOf, IsDescrOf}
 
 -- a set of classes, and the table of names that its numbers are of
@@ -103,7 +104,7 @@ refusal_of set = option_or
     (option_map Duplicate (least_text (marked_names set.names set.classes (namesake_marks set.classes))))
     (option_map SuperCycle (least_text (marked_names set.names set.classes (cycle_marks set.classes))))
 
--- the numbers of a field, and of a method, are of the table, and their kinds are what their descriptors say
+-- the numbers of a field, and of a method and its code, are of the table, and their kinds are what their descriptors say
 pub record IsFieldOver (names : List (List ℕ)) (f : Field) : Type 0 where
   pub name : f.name < length names
   pub descr : f.descr < length names
@@ -113,6 +114,7 @@ pub record IsMethodOver (names : List (List ℕ)) (m : Method) : Type 0 where
   pub name : m.name < length names
   pub descr : m.descr < length names
   pub kinds : IsDescrOf names (text_of names m.descr) m.kinds
+  pub code : IfSome m.code (IsCodeOver names)
 
 -- the numbers of a class are of the table, and so with its members
 pub record IsClassOver (names : List (List ℕ)) (c : Class) : Type 0 where

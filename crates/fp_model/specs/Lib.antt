@@ -1,5 +1,6 @@
 pub mod Branches
 pub mod ClassSet
+pub mod CodeOver
 pub mod Decoding
 pub mod Descriptor
 pub mod Entries

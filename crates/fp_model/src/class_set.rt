@@ -1,7 +1,7 @@
 //! Sets of classes and interfaces.
 ghost use Rattle.std.specs.Prelude.{◌≡◌, ℕ, ◌<◌, List, [], None, Some, length, map, OnOk, IfOk, IfErr, All};
 ghost use Rattle.std.specs.List.{range_with_len};
-ghost use Rattle.fp_model.specs.ClassSet.{SetView, IsClassOver, AreFew, IsSound, IsFirstOf, Duplicate, SuperCycle, class_named, ancestor_after, marked_names, namesake_marks, cycle_marks, refusal_of, TellsRefusal};
+ghost use Rattle.fp_model.specs.ClassSet.{SetView, IsClassOver, IsMethodOver, IsSet, AreFew, IsSound, IsFirstOf, Duplicate, SuperCycle, class_named, ancestor_after, methods_of, marked_names, namesake_marks, cycle_marks, refusal_of, TellsRefusal};
 
 mod blame;
 mod cycles;
@@ -20,8 +20,8 @@ use index::{Firsts, first_members, index_by_name};
 use std::alloc::Global;
 use std::marker::Model;
 
-/// Classes and interfaces over a table of names: no two have one name, and no chain of superclasses comes
-/// back to its start. It never changes.
+/// Classes and interfaces over a table of names, their members and codes with them: no two have one name, and no chain of
+/// superclasses comes back to its start. It never changes.
 #[derive(Drop)]
 pub struct ClassSet {
     classes: Vec<Class>,
@@ -43,7 +43,8 @@ impl Model for ClassSet {
 }
 
 impl ClassSet {
-    /// Makes a set, or says why the classes are none. They are dropped then, and so are the names.
+    /// Makes a set, or says why the classes are none. They are dropped then, and so are the names. All numbers of the classes,
+    /// of their members and of their codes are of the table.
     pub fn build(alloc: Global, classes: Vec<Class>, names: Names) -> Result<ClassSet, SetFault>
         requires over { All (IsClassOver names) classes.items }
         requires few { AreFew classes.items }
@@ -105,4 +106,11 @@ pub fn law_refused()
     ensures cycle { (set : SetView) (name : List ℕ) → refusal_of set ≡ Some (SuperCycle name)
         → (marked_names set.names set.classes (namesake_marks set.classes) ≡ [])
         × IsFirstOf (marked_names set.names set.classes (cycle_marks set.classes)) name }
+{}
+
+/// The methods of a set are over its table of names, each with its code: every class, name and descriptor in an instruction, in
+/// a row of an exception table or in a method handle is a number of the table, and the kinds beside a descriptor are what its
+/// text says (JVMS SE 21 sections 4.3 and 4.4).
+pub fn law_methods_over()
+    ensures { (set : SetView) → IsSet set → All (IsMethodOver set.names) (methods_of set.classes) }
 {}

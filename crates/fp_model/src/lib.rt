@@ -19,7 +19,7 @@ mod shared;
 pub use class::instr::{BootArg, BootRef, Instr};
 pub use class::{Class, ClassId, Code, Field, FieldId, Guard, Method, MethodId, SiteId};
 pub use class_set::fault::SetFault;
-pub use class_set::{ClassSet, law_refused, law_sound};
+pub use class_set::{ClassSet, law_methods_over, law_refused, law_sound};
 pub use descriptor::{
     DescrFault, arg_words, is_descr, is_kind, law_method_descriptor, law_one_kind, read_descr,
     read_kind,

@@ -1,8 +1,6 @@
 -- Instructions over a table of names that grows.
-use Rattle.std.proofs.Common.{◌≡◌, ℕ, Bool, true, false, List, [], ◌∷◌, ◌++◌, Option, Some, None, length, drop, refl, ap, ◌∙◌}
-use Rattle.std.specs.Prelude.{IsTrue, IfSome, slice_get}
-use Rattle.std.specs.List.{list_all, flat_map}
-use Rattle.std.proofs.lemmas.Bool.{and_parts, and_from}
+use Rattle.std.proofs.Common.{◌≡◌, ℕ, Bool, true, false, List, Option, Some, None, drop}
+use Rattle.std.specs.Prelude.{slice_get}
 use Rattle.fp_model.specs.declared.class.instr.Instr.{Instr}
 use Rattle.fp_model.specs.declared.class.instr.Instr.TheVariants as instr
 use Rattle.fp_model.specs.declared.class.instr.BootArg.{BootArg}
@@ -15,10 +13,10 @@ use Rattle.fp_model.specs.declared.raw.attribute.BootRow.{BootRow}
 use Rattle.fp_model.specs.declared.raw.attribute.RawIns.{RawIns}
 use Rattle.fp_model.specs.declared.raw.pool.Entry.{Entry}
 use Rattle.fp_model.specs.declared.raw.pool.Entry.TheVariants as entry
-use Rattle.fp_model.specs.Descriptor.{is_array_like, is_kind, kind_text, result_text, IsDescrOf, IsKindOf}
+use Rattle.fp_model.specs.Descriptor.{is_array_like, IsDescrOf, IsKindOf}
 use Rattle.fp_model.specs.Entries.{class_name_at, text_at}
 use Rattle.fp_model.specs.NamedInstructions.{member_at, IsArrayInstr, IsCallAt, IsCallInstr, IsClassInstr, IsClassKindBy, IsFieldInstr, IsMember, IsMultiArrayInstr, IsNamedInstr, IsOf, MemberTexts}
-use Rattle.fp_model.proofs.LongerTables.{Keeps, IsKindOf-kept}
+use Rattle.fp_model.proofs.LongerTables.{descr_kept, IsKindOf-kept, Keeps}
 use Rattle.fp_ops.specs.CallSites.{handle_with, site_at, HandleTexts, IsArgAt, IsArgOf, IsBootRef, IsHandleArg, IsSiteAt, IsSiteInstr, IsTypeArg, SiteTexts}
 use Rattle.fp_ops.specs.Forms.{dims_in, index_in, IsInstrOf}
 use Rattle.fp_ops.proofs.NamedParts.{AllZip-to}
@@ -29,38 +27,6 @@ IsOf-to P Q None f is = is
 IsOf-to P Q (Some x) f is = f x is
 
 module _ (names longer : List (List ℕ)) (kept : Keeps names longer) where
-  -- ---- descriptors
-
-  one_kept : (k : Kind) → is_kind names k ≡ true → (kind_text longer k ≡ kind_text names k) × (is_kind longer k ≡ true)
-  one_kept k is =
-      let same = IsKindOf-kept names longer kept (kind_text names k) k (record { written = refl; kind = is }) in
-      (same.written, same.kind)
-
-  parameters_kept : (ks : List Kind) → list_all (is_kind names) ks ≡ true → (flat_map (kind_text longer) ks ≡ flat_map (kind_text names) ks) × (list_all (is_kind longer) ks ≡ true)
-  parameters_kept [] is = (refl, refl)
-  parameters_kept (k ∷ ks) is =
-      let parts = and_parts (is_kind names k) (list_all (is_kind names) ks) is in
-      let first = one_kept k parts.0 in
-      let rest = parameters_kept ks parts.1 in
-      (ap (λ t. t ++ flat_map (kind_text longer) ks) first.0 ∙ ap (λ t. kind_text names k ++ t) rest.0, and_from (is_kind longer k) (list_all (is_kind longer) ks) first.1 rest.1)
-
-  result_kept : (r : Option Kind) → IfSome r (λ k. IsTrue (is_kind names k)) → (result_text longer r ≡ result_text names r) × IfSome r (λ k. IsTrue (is_kind longer k))
-  result_kept None is = (refl, tt)
-  result_kept (Some k) is = one_kept k is
-
-  pub descr_kept : (text : List ℕ) (d : Descr) → IsDescrOf names text d → IsDescrOf longer text d
-  descr_kept text d is =
-      let args = parameters_kept d.args is.args in
-      let result = result_kept d.result is.result in
-      record {
-        written =
-            ap (λ t. 40 ∷ (t ++ (41 ∷ result_text longer d.result))) args.0
-            ∙ ap (λ t. 40 ∷ (flat_map (kind_text names) d.args ++ (41 ∷ t))) result.0
-            ∙ is.written;
-        args = args.1;
-        result = result.1;
-      }
-
   -- ---- members
 
   pub member_kept : (texts : MemberTexts) (class name descr : ℕ) → IsMember names texts class name descr → IsMember longer texts class name descr
@@ -81,7 +47,7 @@ module _ (names longer : List (List ℕ)) (kept : Keeps names longer) where
   field_kept op texts _ is = absurd is
 
   invocation_kept : (op wanted : ℕ) (texts : MemberTexts) (class name descr : ℕ) (kinds : Descr) → (op ≡ wanted) × IsMember names texts class name descr × IsDescrOf names texts.descr kinds → (op ≡ wanted) × IsMember longer texts class name descr × IsDescrOf longer texts.descr kinds
-  invocation_kept op wanted texts class name descr kinds is = (is.0, member_kept texts class name descr is.1, descr_kept texts.descr kinds is.2)
+  invocation_kept op wanted texts class name descr kinds is = (is.0, member_kept texts class name descr is.1, descr_kept names longer kept texts.descr kinds is.2)
 
   call_kept : (op : ℕ) (texts : MemberTexts) (i : Instr) → IsCallInstr names op texts i → IsCallInstr longer op texts i
   call_kept op texts (instr.InvokeVirtual class name descr kinds) is = invocation_kept op 182 texts class name descr kinds is
@@ -125,7 +91,7 @@ module _ (names longer : List (List ℕ)) (kept : Keeps names longer) where
   reference_kept handle r is = record { kind_is = is.kind_is; member_is = member_kept handle.member r.class r.name r.descr is.member_is }
 
   type_arg_kept : (a : BootArg) (text : List ℕ) → IsTypeArg names text a → IsTypeArg longer text a
-  type_arg_kept (arg.Sig kinds) text is = descr_kept text kinds is
+  type_arg_kept (arg.Sig kinds) text is = descr_kept names longer kept text kinds is
   type_arg_kept _ text is = absurd is
 
   handle_arg_kept : (a : BootArg) (handle : HandleTexts) → IsHandleArg names handle a → IsHandleArg longer handle a
@@ -140,7 +106,7 @@ module _ (names longer : List (List ℕ)) (kept : Keeps names longer) where
   site_instr_kept : (entries : List Entry) (site : SiteTexts) (i : Instr) → IsSiteInstr names entries site i → IsSiteInstr longer entries site i
   site_instr_kept entries site (instr.InvokeDynamic name descr boot args) is = (
     kept.stands name site.name is.0,
-    descr_kept site.descr descr is.1,
+    descr_kept names longer kept site.descr descr is.1,
     reference_kept site.method boot is.2,
     AllZip-to (IsArgAt names entries) (IsArgAt longer entries) site.args args (λ index a one. arg_kept entries (slice_get entries index) a one) is.3,
   )

@@ -14,14 +14,13 @@ use Rattle.fp_model.specs.declared.kind.Descr.{Descr}
 use Rattle.fp_model.specs.declared.kind.Kind.{Kind}
 use Rattle.fp_model.specs.Descriptor.{descr_names, kind_names, IsDescrOf, IsKindOf}
 use Rattle.fp_model.specs.Entries.{text_at, class_name_at}
-use Rattle.fp_model.proofs.LongerTables.{Keeps, IsKindOf-kept}
+use Rattle.fp_model.proofs.LongerTables.{descr_kept, IsKindOf-kept, Keeps}
 use Rattle.fp_ops.specs.declared.memo.Memo.{Memo}
 use Rattle.fp_model.specs.Interning.{Interned}
 use Rattle.fp_model.specs.Taking.{Taken}
 use Rattle.fp_model.proofs.Taking.{taken_ok}
 use Rattle.fp_ops.specs.References.{IsClassName}
 use Rattle.fp_ops.specs.Memos.{element_names, known_at, AreKnown, IsElementOf, IsMemo, IsSaidAt, IsTextNumber}
-use Rattle.fp_ops.proofs.LongerInstrs.{descr_kept}
 use Rattle.fp_model.proofs.Interned.{interned_ok}
 
 -- ---- lists of what is known

@@ -8,7 +8,8 @@ use Rattle.fp_model.proofs.Interned.{Keeps-then}
 use Rattle.fp_model.proofs.Taking.{kept_by, taken_first, taken_stop}
 use Rattle.fp_ops.specs.CallSites.{arg_texts_at, handle_texts}
 use Rattle.fp_ops.specs.References.{handle_of}
-use Rattle.fp_ops.proofs.LongerInstrs.{descr_kept, reference_kept}
+use Rattle.fp_model.proofs.LongerTables.{descr_kept}
+use Rattle.fp_ops.proofs.LongerInstrs.{reference_kept}
 use Rattle.fp_ops.proofs.Memos.{there}
 use Rattle.fp_ops.proofs.TakenTexts.{after_two, last_of_four, taken_of}
 use Rattle.fp_ops.proofs.sites.site_instr.Goals as goal
