@@ -1,9 +1,8 @@
 -- The code of a method over a table of names that grows.
-use Rattle.std.proofs.Common.{◌≡◌, ℕ, ◌<◌, true, List, Option, Some, None, length, refl, sym, subst}
-use Rattle.std.specs.Prelude.{All, IfSome}
+use Rattle.std.proofs.Common.{ℕ, ◌<◌, List, Option, Some, None, length, refl, sym, subst}
+use Rattle.std.specs.Prelude.{IfSome}
 use Rattle.std.proofs.lemmas.List.Elements.{All-weaker}
 use Rattle.fp_model.specs.declared.class.Code.{Code}
-use Rattle.fp_model.specs.declared.class.Guard.{Guard}
 use Rattle.fp_model.specs.declared.class.instr.BootArg.{BootArg}
 use Rattle.fp_model.specs.declared.class.instr.BootArg.TheVariants as arg
 use Rattle.fp_model.specs.declared.class.instr.BootRef.{BootRef}
@@ -12,7 +11,7 @@ use Rattle.fp_model.specs.declared.class.instr.Instr.TheVariants as instr
 use Rattle.fp_model.specs.declared.kind.Descr.{Descr}
 use Rattle.fp_model.specs.declared.kind.Kind.{Kind}
 use Rattle.fp_model.specs.declared.kind.Kind.TheVariants as kind
-use Rattle.fp_model.specs.CodeOver.{IsBootArgOver, IsBootRefOver, IsCodeOver, IsElementOver, IsFieldRefOver, IsGuardOver, IsInstrOver, IsMemberOver, IsMethodRefOver, IsSiteOver, SaysDescr}
+use Rattle.fp_model.specs.CodeOver.{IsBootArgOver, IsCodeOver, IsElementOver, IsFieldRefOver, IsGuardOver, IsInstrOver, IsMemberOver, IsMethodRefOver, IsSiteOver, SaysDescr}
 use Rattle.fp_model.specs.Descriptor.{descr_text, text_of, IsDescrOf, IsKindOf}
 use Rattle.fp_model.proofs.LongerTables.{descr_kept, is_kind-kept, text_same, within_kept, IsKindOf-kept, Keeps}
 

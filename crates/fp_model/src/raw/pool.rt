@@ -15,9 +15,13 @@ pub enum Entry {
     Unused,
     /// The bytes of a text, in modified UTF-8 (section 4.4.7).
     Utf8(Items<u8>),
+    /// The bits of an int (section 4.4.4).
     Integer(u32),
+    /// The bits of a float (section 4.4.4).
     Float(u32),
+    /// The bits of a long, which takes two indexes (section 4.4.5).
     Long(u64),
+    /// The bits of a double, which takes two indexes (section 4.4.5).
     Double(u64),
     /// The index of a class's name (section 4.4.1).
     Class(u16),
@@ -25,9 +29,9 @@ pub enum Entry {
     Text(u16),
     /// A reference to a field: the indexes of its class, and of its name and type (section 4.4.2).
     FieldRef { class: u16, pair: u16 },
-    /// A reference to a method of a class.
+    /// A reference to a method of a class: the indexes of its class, and of its name and type (section 4.4.2).
     MethodRef { class: u16, pair: u16 },
-    /// A reference to a method of an interface.
+    /// A reference to a method of an interface: the indexes of the interface, and of its name and type (section 4.4.2).
     InterfaceRef { class: u16, pair: u16 },
     /// A `CONSTANT_NameAndType`: the indexes of the texts of a name and of a descriptor (section 4.4.6).
     Pair { name: u16, descr: u16 },
@@ -38,7 +42,7 @@ pub enum Entry {
     /// A constant that a bootstrap method computes: the number of its row in `BootstrapMethods`, and the index of its name and
     /// type (section 4.4.10).
     Dynamic { boot: u16, pair: u16 },
-    /// The same of a call site.
+    /// A call site that a bootstrap method computes: the same two (section 4.4.10).
     InvokeDynamic { boot: u16, pair: u16 },
     /// The index of a module's name (section 4.4.11).
     Module(u16),
