@@ -1,6 +1,7 @@
 //! The code of a method in numbers of a table of names.
 ghost use Rattle.std.specs.Prelude.{◌≡◌, ◌<◌, length, true, IfOk, OnOk};
 ghost use Rattle.std.specs.List.{flat_map, AllZip};
+ghost use Rattle.fp_ops.specs.BootMemos.{IsBootMemo};
 ghost use Rattle.fp_ops.specs.Memos.{IsMemo};
 ghost use Rattle.fp_class.specs.MethodCode.{code_texts, is_sound_code, row_texts, AreInstrsFrom, IsCodeOf, IsGuardOf};
 ghost use Rattle.fp_model.specs.Spelling.{spelled_ins};
@@ -11,7 +12,7 @@ ghost use Rattle.fp_ops.specs.Forms.{instr_texts};
 use crate::naming::parent_name;
 use fp_base::{NameFault, Names};
 use fp_model::{BootRow, CatchRow, Code, Entry, Guard, Instr, Pool, RawCode, RawIns};
-use fp_ops::{Memo, empty_memo, instr_with};
+use fp_ops::{BootMemo, Memo, empty_boot_memo, empty_memo, instr_with};
 use sqlite_items::Items;
 use std::alloc::Global;
 
@@ -32,18 +33,23 @@ fn instructions(
     boots: &[BootRow],
     names: &mut Names,
     memo: &mut Memo,
+    boot_memo: &mut BootMemo,
 ) -> Result<Items<(u16, Instr)>, NameFault>
     requires sound { are_sound_from pool.now.entries boots.now 0 code.now ≡ true }
     requires short { length (flat_map spelled_ins code.now) < 65536 }
     requires memo { IsMemo names.old pool.now.entries memo.old }
+    requires rows { IsBootMemo names.old pool.now.entries boots.now boot_memo.old }
     ensures instrs { IfOk result (λ instrs. AreInstrsFrom names.new pool.now.entries boots.now 0 instrs code.now) }
     ensures names { Taken result names.old names.new (flat_map (instr_texts pool.now.entries boots.now) code.now) }
     ensures memo { OnOk result (IsMemo names.new pool.now.entries memo.new) }
+    ensures rows { OnOk result (IsBootMemo names.new pool.now.entries boots.now boot_memo.new) }
 {
-    let mut instrs = Vec::new(alloc);
+    let Ok(mut instrs) = Vec::with_capacity(alloc, code.len()) else {
+        return Err(NameFault::Memory);
+    };
     let mut pc = 0;
     for ins in code {
-        let instr = instr_with(alloc, ins, pc, pool, boots, names, memo)?;
+        let instr = instr_with(alloc, ins, pc, pool, boots, names, memo, boot_memo)?;
         if instrs.push((pc, instr)).is_err() {
             return Err(NameFault::Memory);
         }
@@ -89,7 +95,9 @@ fn guards(
     ensures names { Taken result names.old names.new (flat_map (row_texts entries.now) rows.now) }
     ensures memo { OnOk result (IsMemo names.new entries.now memo.new) }
 {
-    let mut guards = Vec::new(alloc);
+    let Ok(mut guards) = Vec::with_capacity(alloc, rows.len()) else {
+        return Err(NameFault::Memory);
+    };
     for row in rows {
         let one = guard(alloc, entries, *row, names, memo)?;
         if guards.push(one).is_err() {
@@ -99,7 +107,8 @@ fn guards(
     Ok(Items::from_vec(guards))
 }
 
-/// The code of a method in numbers of a table of names, where what is known of the texts is kept.
+/// The code of a method in numbers of a table of names, where what is known of the texts and of the rows of
+/// `BootstrapMethods` is kept.
 pub fn code_with(
     alloc: Global,
     code: &RawCode,
@@ -107,14 +116,25 @@ pub fn code_with(
     boots: &[BootRow],
     names: &mut Names,
     memo: &mut Memo,
+    boot_memo: &mut BootMemo,
 ) -> Result<Code, NameFault>
     requires sound { is_sound_code pool.now.entries boots.now code.now ≡ true }
     requires memo { IsMemo names.old pool.now.entries memo.old }
+    requires rows { IsBootMemo names.old pool.now.entries boots.now boot_memo.old }
     ensures code { IfOk result (λ c. IsCodeOf names.new pool.now.entries boots.now c code.now) }
     ensures names { Taken result names.old names.new (code_texts pool.now.entries boots.now code.now) }
     ensures memo { OnOk result (IsMemo names.new pool.now.entries memo.new) }
+    ensures rows { OnOk result (IsBootMemo names.new pool.now.entries boots.now boot_memo.new) }
 {
-    let instrs = instructions(alloc, code.code.as_slice(), pool, boots, names, memo)?;
+    let instrs = instructions(
+        alloc,
+        code.code.as_slice(),
+        pool,
+        boots,
+        names,
+        memo,
+        boot_memo,
+    )?;
     let rows = guards(
         alloc,
         pool.entries.as_slice(),
@@ -148,5 +168,8 @@ pub fn to_code(
     let Ok(mut memo) = empty_memo(alloc, pool.entries.as_slice()) else {
         return Err(NameFault::Memory);
     };
-    code_with(alloc, code, pool, boots, names, &mut memo)
+    let Ok(mut boot_memo) = empty_boot_memo(alloc, boots) else {
+        return Err(NameFault::Memory);
+    };
+    code_with(alloc, code, pool, boots, names, &mut memo, &mut boot_memo)
 }

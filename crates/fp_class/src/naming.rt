@@ -20,7 +20,7 @@ use fp_base::{NameFault, Names};
 use fp_model::flags::is_module;
 use fp_model::{Class, Entry, Field, Raw, RawMember, look_up};
 use fp_ops::naming::{class_name, text};
-use fp_ops::{Memo, empty_memo, kind_at};
+use fp_ops::{Memo, empty_boot_memo, empty_memo, kind_at};
 use sqlite_items::Items;
 use std::alloc::Global;
 
@@ -60,7 +60,9 @@ fn class_names(
     ensures names { Interned result names.old names.new (flat_map (λ index. option_to_list (class_name_at entries.now index)) indexes.now) }
     ensures memo { OnOk result (IsMemo names.new entries.now memo.new) }
 {
-    let mut numbers = Vec::new(alloc);
+    let Ok(mut numbers) = Vec::with_capacity(alloc, indexes.len()) else {
+        return Err(NameFault::Memory);
+    };
     for index in indexes {
         let number = class_name(alloc, entries, *index, names, memo)?;
         if numbers.push(number).is_err() {
@@ -111,7 +113,9 @@ fn fields(
     ensures names { Interned result names.old names.new (flat_map (field_names entries.now) members.now) }
     ensures memo { OnOk result (IsMemo names.new entries.now memo.new) }
 {
-    let mut fields = Vec::new(alloc);
+    let Ok(mut fields) = Vec::with_capacity(alloc, members.len()) else {
+        return Err(NameFault::Memory);
+    };
     for member in members {
         let one = field(alloc, entries, member, names, memo)?;
         if fields.push(one).is_err() {
@@ -132,12 +136,23 @@ fn class(alloc: Global, raw: &Raw, names: &mut Names) -> Result<Class, NameFault
     let Ok(mut memo) = empty_memo(alloc, entries) else {
         return Err(NameFault::Memory);
     };
+    let Ok(mut boot_memo) = empty_boot_memo(alloc, boots) else {
+        return Err(NameFault::Memory);
+    };
     let memo = &mut memo;
     let this = class_name(alloc, entries, raw.this, names, memo)?;
     let parent = parent_name(alloc, entries, raw.parent, names, memo)?;
     let interfaces = class_names(alloc, entries, raw.interfaces.as_slice(), names, memo)?;
     let fields = fields(alloc, entries, raw.fields.as_slice(), names, memo)?;
-    let methods = methods(alloc, &raw.pool, boots, raw.methods.as_slice(), names, memo)?;
+    let methods = methods(
+        alloc,
+        &raw.pool,
+        boots,
+        raw.methods.as_slice(),
+        names,
+        memo,
+        &mut boot_memo,
+    )?;
     Ok(Class {
         name: this,
         parent,

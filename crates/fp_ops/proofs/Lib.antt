@@ -17,4 +17,5 @@ pub mod TakenTexts
 pub mod Tables
 pub mod LongerInstrs
 pub mod Memos
+pub mod BootMemos
 pub mod ReferenceTexts

@@ -46,13 +46,13 @@ all_held names (text ∷ texts) =
     and_from (has_name (with_names (with_name names text) texts) text) (list_all (has_name (with_names (with_name names text) texts)) texts)
     (has_name-kept (with_name names text) texts text (has_name-interned names text)) (all_held (with_name names text) texts)
 
-with_names_held : (names texts : List (List ℕ)) → list_all (has_name names) texts ≡ true → with_names names texts ≡ names
+pub with_names_held : (names texts : List (List ℕ)) → list_all (has_name names) texts ≡ true → with_names names texts ≡ names
 with_names_held names [] held = refl
 with_names_held names (text ∷ texts) held =
     let parts = and_parts (has_name names text) (list_all (has_name names) texts) held in
     ap (λ table. with_names table texts) (with_name-known names text parts.0) ∙ with_names_held names texts parts.1
 
-held_longer : (names more texts : List (List ℕ)) → list_all (has_name names) texts ≡ true → list_all (has_name (names ++ more)) texts ≡ true
+pub held_longer : (names more texts : List (List ℕ)) → list_all (has_name names) texts ≡ true → list_all (has_name (names ++ more)) texts ≡ true
 held_longer names more [] held = refl
 held_longer names more (text ∷ texts) held =
     let parts = and_parts (has_name names text) (list_all (has_name names) texts) held in
@@ -61,11 +61,11 @@ held_longer names more (text ∷ texts) held =
 
 -- ---- in a longer table
 
-known_to : {X : Type 0} (P Q : X → ℕ → Type 0) (count : ℕ) (known : List (Option X)) → ((x : X) (i : ℕ) → P x i → Q x i) → AreKnown P count known → AreKnown Q count known
+pub known_to : {X : Type 0} (P Q : X → ℕ → Type 0) (count : ℕ) (known : List (Option X)) → ((x : X) (i : ℕ) → P x i → Q x i) → AreKnown P count known → AreKnown Q count known
 known_to P Q count known f all = record { size = all.size; at = λ i x e. f x i (all.at i x e) }
 
 module _ (names more longer : List (List ℕ)) (is : longer ≡ names ++ more) where
-  keeps : Keeps names longer
+  pub keeps : Keeps names longer
   keeps = record { stands = λ i text at. subst (λ t. slice_get t i ≡ Some text) (sym is) (slice_get-append names more i text at) }
 
   number_longer : (entries : List Entry) (n index : ℕ) → IsTextNumber names entries n index → IsTextNumber longer entries n index
@@ -146,7 +146,7 @@ descr_taken names entries memo i d known at = taken_ok d names names (descr_name
 neither : {X : Type 0} {x : X} → None ≡ Some x → ⊥
 neither e = cc
 
-none_known : {X : Type 0} (P : X → ℕ → Type 0) (count : ℕ) (known : List (Option X)) → known ≡ replicate count None → AreKnown P count known
+pub none_known : {X : Type 0} (P : X → ℕ → Type 0) (count : ℕ) (known : List (Option X)) → known ≡ replicate count None → AreKnown P count known
 none_known P count known is = record {
   size = ap length is ∙ length-replicate count None;
   at = λ i x e. absurd (neither (sym (ap (λ l. known_at l i) is ∙ nothing_known count i) ∙ e));
@@ -161,7 +161,7 @@ nothing_noted names entries memo numbers kinds elements descrs = record {
 }
 
 -- one more is known
-one_noted : {X : Type 0} (P : X → ℕ → Type 0) (count : ℕ) (known after : List (Option X)) (i : ℕ) (x : X) → AreKnown P count known → P x i → after ≡ set known i (Some x) → AreKnown P count after
+pub one_noted : {X : Type 0} (P : X → ℕ → Type 0) (count : ℕ) (known after : List (Option X)) (i : ℕ) (x : X) → AreKnown P count known → P x i → after ≡ set known i (Some x) → AreKnown P count after
 one_noted P count known after i x all one is = record {
   size = ap length is ∙ length-set known i (Some x) ∙ all.size;
   at = λ j y e. elim (one_known known i j x y (sym (ap (λ l. known_at l j) is) ∙ e)) [

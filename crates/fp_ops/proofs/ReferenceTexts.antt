@@ -1,5 +1,5 @@
 -- References to members, by the indexes of their texts.
-use Rattle.std.proofs.Common.{◌≡◌, ℕ, Bool, true, List, [], Option, Some, None, refl, sym, ap, ◌∙◌, subst}
+use Rattle.std.proofs.Common.{◌≡◌, ℕ, Bool, true, List, [], Option, Some, None, refl, ap, ◌∙◌, subst}
 use Rattle.std.proofs.lemmas.Bool.{and_parts}
 use Rattle.std.specs.List.{list_all}
 use Rattle.std.specs.Option.{is_some, unwrap_or}
@@ -10,7 +10,6 @@ use Rattle.fp_model.specs.NamedInstructions.{all_texts, is_entry_text, MemberTex
 use Rattle.fp_ops.specs.CallSites.{handle_with, is_sound_arg_at, is_sound_site, site_by}
 use Rattle.fp_ops.specs.References.{texts_at, AreTexts}
 use Rattle.fp_ops.proofs.Memos.{there}
-use Rattle.fp_ops.proofs.NamedParts.{passes-is_some}
 
 record HasAll (class name descr : Option (List ℕ)) : Type 0 where
   class_there : is_some class ≡ true

@@ -81,6 +81,14 @@ is_sound_arg_of entries _ = true
 abbrev pub is_sound_arg_at : List Entry → ℕ → Bool
 is_sound_arg_at entries index = is_sound_arg_of entries (slice_get entries index)
 
+-- the indexes of those of the row of a number, none where there is no row
+abbrev pub row_args_in : Option BootRow → List ℕ
+row_args_in None = []
+row_args_in (Some row) = row.args
+
+abbrev pub row_args_at : List BootRow → ℕ → List ℕ
+row_args_at boots number = row_args_in (slice_get boots number)
+
 -- ---- call sites
 
 -- a call site: the texts of its name and descriptor, its bootstrap method, and the indexes of the static arguments

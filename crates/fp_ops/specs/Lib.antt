@@ -1,3 +1,4 @@
+pub mod BootMemos
 pub mod CallSites
 pub mod Checked
 pub mod Forms

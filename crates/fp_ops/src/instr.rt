@@ -7,9 +7,11 @@ ghost use Rattle.fp_model.specs.NamedInstructions.{call_texts, is_call_op, is_en
 ghost use Rattle.fp_model.specs.Taking.{Taken};
 ghost use Rattle.fp_model.specs.Entries.{passes};
 ghost use Rattle.fp_ops.specs.CallSites.{is_sound_site_at, site_texts_at, IsSiteAt};
+ghost use Rattle.fp_ops.specs.BootMemos.{IsBootMemo};
 ghost use Rattle.fp_ops.specs.Memos.{IsMemo};
 ghost use Rattle.fp_ops.specs.Forms.{dims_in, index_in, instr_texts, is_named_op, is_site_op, is_sound_ins, takes_names, IsInstrOf};
 
+use crate::boot_memo::{BootMemo, empty_boot_memo};
 use crate::memo::{Memo, empty_memo};
 use crate::named::call_at;
 use crate::plain::number_in;
@@ -98,15 +100,18 @@ fn site_instr(
     ins: &RawIns,
     names: &mut Names,
     memo: &mut Memo,
+    boot_memo: &mut BootMemo,
 ) -> Result<Instr, NameFault>
     requires there { passes (λ index. is_sound_site_at entries.now boots.now index) (index_in ins.now) ≡ true }
     requires memo { IsMemo names.old entries.now memo.old }
+    requires rows { IsBootMemo names.old entries.now boots.now boot_memo.old }
     ensures instr { IfOk result (λ i. IsOf (λ index. IsSiteAt names.new entries.now boots.now index i) (index_in ins.now)) }
     ensures names { Taken result names.old names.new (texts_by (λ index. site_texts_at entries.now boots.now index) (index_in ins.now)) }
     ensures memo { OnOk result (IsMemo names.new entries.now memo.new) }
+    ensures rows { OnOk result (IsBootMemo names.new entries.now boots.now boot_memo.new) }
 {
     match index_of(ins) {
-        Some(index) => site_instr_at(alloc, entries, boots, index, names, memo),
+        Some(index) => site_instr_at(alloc, entries, boots, index, names, memo, boot_memo),
         None => unreachable!(),
     }
 }
@@ -125,11 +130,12 @@ fn plain_instr(alloc: Global, entries: &[Entry], pc: u16, ins: &RawIns) -> Resul
 }
 
 /// The form of an instruction at an offset in a code, in bytes (JVMS SE 21 chapter 6), over a table of names, which takes
-/// the names that the instruction has. What is known of the texts of the constant pool is in the memo, and is kept there.
+/// the names that the instruction has. What is known of the texts of the constant pool is in the memo, and is kept there; what is
+/// known of the rows of `BootstrapMethods` is in the other one.
 ///
 /// The instruction is one that `decode` gives over this pool, with the rows of `BootstrapMethods`. Where the table is full
-/// or memory runs out, the table may have grown, and the memo is of no more use; the table is full only where it lacks one of
-/// the names.
+/// or memory runs out, the table may have grown, and the memos are of no more use; the table is full only where it lacks one
+/// of the names.
 pub fn instr_with(
     alloc: Global,
     ins: &RawIns,
@@ -138,12 +144,15 @@ pub fn instr_with(
     boots: &[BootRow],
     names: &mut Names,
     memo: &mut Memo,
+    boot_memo: &mut BootMemo,
 ) -> Result<Instr, NameFault>
     requires sound { is_sound_ins pool.now.entries boots.now pc ins.now ≡ true }
     requires memo { IsMemo names.old pool.now.entries memo.old }
+    requires rows { IsBootMemo names.old pool.now.entries boots.now boot_memo.old }
     ensures instr { IfOk result (IsInstrOf names.new pool.now.entries boots.now pc ins.now) }
     ensures names { Taken result names.old names.new (instr_texts pool.now.entries boots.now ins.now) }
     ensures memo { OnOk result (IsMemo names.new pool.now.entries memo.new) }
+    ensures rows { OnOk result (IsBootMemo names.new pool.now.entries boots.now boot_memo.new) }
 {
     let entries = pool.entries.as_slice();
     if is_named(ins.op) {
@@ -153,7 +162,7 @@ pub fn instr_with(
         return call_instr(alloc, entries, ins, names, memo);
     }
     if ins.op == INVOKE_DYNAMIC {
-        return site_instr(alloc, entries, boots, ins, names, memo);
+        return site_instr(alloc, entries, boots, ins, names, memo, boot_memo);
     }
     plain_instr(alloc, entries, pc, ins)
 }
@@ -177,5 +186,17 @@ pub fn to_instr(
     let Ok(mut memo) = empty_memo(alloc, pool.entries.as_slice()) else {
         return Err(NameFault::Memory);
     };
-    instr_with(alloc, ins, pc, pool, boots, names, &mut memo)
+    let Ok(mut boot_memo) = empty_boot_memo(alloc, boots) else {
+        return Err(NameFault::Memory);
+    };
+    instr_with(
+        alloc,
+        ins,
+        pc,
+        pool,
+        boots,
+        names,
+        &mut memo,
+        &mut boot_memo,
+    )
 }

@@ -23,7 +23,7 @@ fn places(
     requires positive { 4 ≤ step }
     ensures { IfOk result (λ to. to ≡ instructions.places_after [] (far_target pc args.now 0 ∷ far_targets pc step args.now count 12)) }
 {
-    let mut to = Vec::new(alloc);
+    let mut to = Vec::with_capacity(alloc, count.saturating_add(1))?;
     let Some(default) = short(far(pc, args, 0)) else {
         return Ok(None);
     };

@@ -1,6 +1,7 @@
 //! Decodes instructions, and tells the form of each (JVMS SE 21 chapter 6), in numbers of a table of names.
 #![tactic(auto)]
 
+mod boot_memo;
 mod branches;
 mod constants;
 mod forms;
@@ -20,6 +21,7 @@ mod soundness;
 mod switches;
 mod texts;
 
+pub use boot_memo::{BootMemo, empty_boot_memo};
 pub use branches::{check_targets, starts};
 pub use forms::operands_of;
 pub use instr::{instr_with, to_instr};

@@ -23,7 +23,7 @@ pub fn empty_memo(alloc: Global, entries: &[Entry]) -> Result<Memo, AllocError>
     let numbers = vec![in alloc; None; entries.len()]?;
     let kinds = vec![in alloc; None; entries.len()]?;
     let elements = vec![in alloc; None; entries.len()]?;
-    let descrs = no_descrs(alloc, entries.len())?;
+    let descrs = unknown(alloc, entries.len())?;
     Ok(Memo {
         numbers,
         kinds,
@@ -32,15 +32,15 @@ pub fn empty_memo(alloc: Global, entries: &[Entry]) -> Result<Memo, AllocError>
     })
 }
 
-/// A list in which no method descriptor is known.
-fn no_descrs(alloc: Global, size: usize) -> Result<Vec<Option<Shared<Descr>>>, AllocError>
-    ensures { IfOk result (λ descrs. descrs.items ≡ replicate size None) }
+/// A list of so many places in which nothing is known.
+pub fn unknown<T: Drop>(alloc: Global, size: usize) -> Result<Vec<Option<T>>, AllocError>
+    ensures { IfOk result (λ known. known.items ≡ replicate size None) }
 {
-    let mut descrs = Vec::with_capacity(alloc, size)?;
+    let mut known = Vec::with_capacity(alloc, size)?;
     for _ in 0..size {
-        descrs.push(None)?;
+        known.push(None)?;
     }
-    Ok(descrs)
+    Ok(known)
 }
 
 /// The number of the text at an index, if it is known.

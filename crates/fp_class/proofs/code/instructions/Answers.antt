@@ -41,6 +41,7 @@ loop-ins-preserved c =
           (AreInstrsFrom-kept c.loop-ins.names c.instr_with.new.names kept c.args.pool.now.entries c.args.boots.now 0 c.loop-ins.instrs.items (take c.loop-ins.ins-index c.args.code.now) c.loop-ins.invariant.instrs)
           (omega (arith, c.loop-ins.invariant.at)) c.in_ok-instr.ensures.instr);
       memo = c.in_ok-instr.ensures.memo;
+      rows = c.in_ok-instr.ensures.rows;
     }
 
 pub returns-clause-names : goal.returns-clause-names

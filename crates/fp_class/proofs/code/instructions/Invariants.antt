@@ -1,6 +1,7 @@
 use Rattle.std.proofs.Common.{◌≡◌, ◌+◌, true, length, drop, take}
 use Rattle.std.specs.List.{flat_map}
 use Rattle.fp_base.specs.Names.{with_names}
+use Rattle.fp_ops.specs.BootMemos.{IsBootMemo}
 use Rattle.fp_ops.specs.Memos.{IsMemo}
 use Rattle.fp_class.specs.MethodCode.{AreInstrsFrom}
 use Rattle.fp_model.specs.Spelling.{spelled_ins}
@@ -17,4 +18,5 @@ invariant-loop-ins l = record {
   names : l.names ≡ with_names l.fn.names (flat_map (instr_texts l.pool.entries l.boots) (take l.ins-index l.code));
   instrs : AreInstrsFrom l.names l.pool.entries l.boots 0 l.instrs.items (take l.ins-index l.code);
   memo : IsMemo l.names l.pool.entries l.memo;
+  rows : IsBootMemo l.names l.pool.entries l.boots l.boot_memo;
 }

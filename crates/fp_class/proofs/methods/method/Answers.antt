@@ -10,6 +10,7 @@ use Rattle.fp_class.specs.MethodCode.{code_texts}
 use Rattle.fp_class.specs.Methods.{code_of}
 use Rattle.fp_class.proofs.NamedMethods.{method_named}
 use Rattle.fp_class.proofs.NamedParts.{entry_passes}
+use Rattle.fp_ops.proofs.BootMemos.{boot_memo_kept}
 use Rattle.fp_ops.proofs.TakenTexts.{after_two, last_of_four, taken_of}
 use Rattle.fp_class.proofs.methods.method.Goals as goal
 
@@ -63,3 +64,10 @@ returns-in_err-code-clause-names c =
     (last_of_four c.in_err-code.field-0.0 c.args.names.now c.text.new.names c.text-2.new.names c.kinds_at.new.names c.code.new.names (unwrap_or (text_at entries c.args.member.now.name) [] ∷ []) (descr ∷ []) (descr_names descr) (texts_by (code_texts entries c.args.boots.now) (code_of c.args.member.now.attributes))
     (rw c.as_slice-entries.ensures at c.in_ok-name.ensures.names.names) (rw c.as_slice-entries.ensures at c.in_ok-descr.ensures.names.names) (rw c.as_slice-entries.ensures at c.in_ok-kinds.ensures.names.names)
     (rw c.as_slice.ensures at c.in_err-code.ensures.names))
+
+-- what is known of the rows is still true after the name and the descriptor are read
+pub code-requires-clause-rows : goal.code-requires-clause-rows
+code-requires-clause-rows c =
+    boot_memo_kept _ _ _ _ c.args.pool.now.entries c.args.boots.now c.args.boot_memo.now c.in_ok-kinds.ensures.names
+    (boot_memo_kept _ _ _ _ c.args.pool.now.entries c.args.boots.now c.args.boot_memo.now (taken_of _ _ _ _ c.in_ok-descr.ensures.names)
+    (boot_memo_kept _ _ _ _ c.args.pool.now.entries c.args.boots.now c.args.boot_memo.now (taken_of _ _ _ _ c.in_ok-name.ensures.names) c.requires.rows))

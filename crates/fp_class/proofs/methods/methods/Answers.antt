@@ -41,6 +41,7 @@ loop-member-preserved c =
           (AllZip-to before after _ _ (λ m member is. IsNamedMethod-kept c.loop-member.names c.method.new.names kept c.args.pool.now.entries c.args.boots.now m member is) c.loop-member.invariant.methods)
           c.in_ok-one.ensures.method);
       memo = c.in_ok-one.ensures.memo;
+      rows = c.in_ok-one.ensures.rows;
     }
 
 pub returns-clause-names : goal.returns-clause-names

@@ -16,7 +16,7 @@ loop-left-init c =
     let all : c.args.count - 0 ≡ c.args.count = omega arith in
     record {
       at = omega arith;
-      rest = rw (c.in_ok-push.ensures.items, all, c.new-to.ensures.items) (sym (places_next [] (far_target c.args.pc c.args.args.now 0) (far_targets c.args.pc c.args.step c.args.args.now c.args.count 12) c.in-Some.default some));
+      rest = rw (c.in_ok-push.ensures.items, all, c.in_ok-to.ensures.items) (sym (places_next [] (far_target c.args.pc c.args.args.now 0) (far_targets c.args.pc c.args.step c.args.args.now c.args.count 12) c.in-Some.default some));
     }
 
 pub returns-in_default-short : goal.returns-in_default-short
