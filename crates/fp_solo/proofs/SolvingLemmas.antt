@@ -2,8 +2,9 @@
 use Rattle.std.proofs.Common.{◌≡◌, ◌<◌, ◌≤◌, ◌+◌, ◌-◌, ◌^◌, ◌==◌, ◌&&◌, ◌||◌, ◌⊎◌, ℕ, Bool, true, false, not, IsTrue, bit_or, if◌then◌else◌, refl, sym, ap, subst, ◌∙◌, inl, inr, arith, zero, suc}
 use Rattle.std.specs.Int.{bit_at}
 use Rattle.std.proofs.lemmas.Bool.{cases_Bool, cases_eq, cases_lt, eq-eqb, ne_eqb, not-true}
+use Rattle.std.proofs.lemmas.Nat.{le_or_l}
 use Rattle.std.proofs.lemmas.Nat.Bits.{bit_at_or, bit_at-lt, same_from_bits_below}
-use Rattle.fp_bits.specs.Words.{IsWithin, within-trans, within-or_right, or-within}
+use Rattle.fp_bits.specs.Words.{IsWithin, or-fits, or-within, within-or_right, within-refl, within-trans}
 use Rattle.fp_eqs.specs.Bounds.{sum_below, new_bits, evaluation_bound}
 use Rattle.fp_eqs.specs.Counts.{but, but-parts, count_below-with}
 use Rattle.fp_eqs.specs.Demand.{any_below, demand, is_started}
@@ -11,7 +12,7 @@ use Rattle.fp_eqs.specs.Equations.{Equations, IsMonotone, IsBelow, IsIn, count_b
 use Rattle.fp_eqs.specs.Solution.{solution}
 use Rattle.fp_eqs.specs.Tests.{left, right, either, both, parts, false-if_not, any-found, same-bool, neither}
 use Rattle.fp_eqs.proofs.Sums.{sum_below-le}
-use Rattle.fp_eqs.proofs.Least.{solution-least}
+use Rattle.fp_eqs.proofs.Least.{solution-fits, solution-least}
 use Rattle.fp_eqs.proofs.LeastDemand.{started-grows, demand-least}
 use Rattle.fp_eqs.proofs.OnDemand.{solved-in, demand-in}
 use Rattle.fp_solo.specs.Solving.{IsSettled, IsSolving, Wakes, pays}
@@ -125,12 +126,41 @@ wanted-end e laws v w s d r n h done =
     closed : (t : ℕ) → t < e.tasks → IsTrue (is_started e w t) → IsBelow ((e.task t).out v) v
     closed t lt started = (h.settled t lt (on t lt started) (done t)).closed
 
--- ---- an evaluation
+-- ---- the start
 
 -- sums of what is counted and of what is paid
 counts : (f : ℕ → Bool) (n : ℕ) → count_below f n ≡ sum_below (λ i. if f i then 1 else 0) n
 counts f zero = refl
 counts f (suc n) = ap (λ k. k + (if f n then 1 else 0)) (counts f n)
+
+-- what stands before any task was evaluated: the shown places are wanted, and each task that they start is due
+pub solving-start : (e : Equations) → IsMonotone e → (v : ℕ → ℕ) (w s d : ℕ → Bool) (r : ℕ → ℕ → Bool) → ((p : ℕ) → v p ≡ e.fixed p) → IsIn e.shown w → IsIn w e.shown →
+    ((t : ℕ) → t < e.tasks → s t ≡ is_started e w t) → ((t : ℕ) → IsTrue (s t) → t < e.tasks) → ((t : ℕ) → d t ≡ s t) → ((t p : ℕ) → r t p ≡ false) → IsSolving e v w s d r 0
+solving-start e laws v w s d r values shown only starts tasks due none = record {
+  above = λ p. subst (IsWithin (e.fixed p)) (sym (values p)) (within-refl (e.fixed p));
+  below = λ p. subst (λ x. IsWithin x (solution e p)) (sym (values p)) ((solution-least e laws).holds_fixed p);
+  shown = shown;
+  demanded = λ p h. (demand-least e laws).holds_shown p (only p h);
+  starts = starts;
+  reads_wanted = λ t p h. let never = none t p in cc;
+  reads_used = λ t p h. let never = none t p in cc;
+  reads_started = λ t p h. let never = none t p in cc;
+  due_started = λ t h. subst (λ b. IsTrue b) (due t) h;
+  started_tasks = tasks;
+  settled = λ t lt on calm. let same = due t in cc;
+  few = omega (arith, counts d e.tasks, sum_below-le (λ i. if d i then 1 else 0) (pays e v s) e.tasks (λ t _. one-paid t));
+}
+  where
+    one : Bool → ℕ
+    one b = if b then 1 else 0
+
+    one-paid : (t : ℕ) → one (d t) ≤ pays e v s t
+    one-paid t = elim (cases_Bool (d t)) [
+      | inl on ↦ (let counted : one (d t) ≡ 1 = ap one on in omega (arith, counted, pays-start e v s t (subst (λ b. IsTrue b) (due t) on)))
+      | inr off ↦ (let counted : one (d t) ≡ 0 = ap one off in omega (arith, counted))
+    ]
+
+-- ---- an evaluation
 
 sum-paid : (a x b y : ℕ → ℕ) (n : ℕ) → ((i : ℕ) → i < n → a i + x i ≤ b i + y i) → sum_below a n + sum_below x n ≤ sum_below b n + sum_below y n
 sum-paid a x b y zero h = omega arith
@@ -278,3 +308,21 @@ evaluated-by e laws v u w x s z d d2 c r q n t h due fv fu values wants starts t
       | inl k ↦ (let counted : one (c i) ≡ 1 = ap one k in omega (arith, counted, paid i k))
       | inr none ↦ (let counted : one (c i) ≡ 0 = ap one none in omega (arith, counted, pays-le e v u s z i wakes.grows (on i)))
     ]
+
+-- ---- a step
+
+pub words-below : (e : Equations) → IsMonotone e → (v : ℕ → ℕ) → IsBelow v (solution e) → (p : ℕ) → v p < 2 ^ 64
+words-below e laws v below p =
+    let most : v p ≤ solution e p = subst (λ x. v p ≤ x) (below p) (le_or_l (v p) (solution e p)) in
+    omega (arith, most, solution-fits e laws p)
+
+-- a task that was due is so no more, and then its evaluation is taken in
+pub step-solving : (e : Equations) → IsMonotone e → (v u : ℕ → ℕ) (w x s z d d0 c : ℕ → Bool) (r q : ℕ → ℕ → Bool) (n t : ℕ) → IsSolving e v w s d r n → IsTrue (d t) → ((i : ℕ) → d0 i ≡ (d i && not (t == i))) →
+    ((p : ℕ) → u p ≡ bit_or (v p) ((e.task t).out v p)) → ((p : ℕ) → x p ≡ (w p || (e.task t).uses v p)) → ((i : ℕ) → i < e.tasks → z i ≡ is_started e x i) → ((i : ℕ) → IsTrue (z i) → i < e.tasks) →
+    ((i p : ℕ) → q i p ≡ (if i == t then (e.task t).uses v p else r i p)) → Wakes e.places q v u (λ i. d0 i || (z i && not (s i))) c → IsSolving e u x z c q (n + 1)
+step-solving e laws v u w x s z d d0 c r q n t h due taken values wants starts tasks reads wakes =
+    let fits = words-below e laws v h.below in
+    let outs = (laws.lawful t (h.started_tasks t (h.due_started t due))).out_fits v fits in
+    evaluated-by e laws v u w x s z d (λ i. d0 i || (z i && not (s i))) c r q n t h due fits
+    (λ p. subst (λ k. k < 2 ^ 64) (sym (values p)) (or-fits (v p) ((e.task t).out v p) (fits p) (outs p)))
+    values wants starts tasks reads (λ i. ap (λ b. b || (z i && not (s i))) (taken i)) wakes
