@@ -1,5 +1,5 @@
 -- The code of a method of a class file is over the table that has its names.
-use Rattle.std.proofs.Common.{◌≡◌, inl, inr, ℕ, ◌+◌, ◌<◌, Bool, true, false, ◌==◌, List, [], ◌∷◌, Option, Some, None, length, drop, sym, ap, refl, subst, arith}
+use Rattle.std.proofs.Common.{◌≡◌, inl, inr, ℕ, ◌+◌, Bool, true, false, ◌==◌, List, [], ◌∷◌, Option, Some, None, length, sym, ap, refl, subst, arith}
 use Rattle.std.specs.Prelude.{slice_get, unwrap_or, All, IfSome}
 use Rattle.std.specs.List.{AllZip}
 use Rattle.std.proofs.lemmas.Bool.{cases_Bool, eqb-true, or_cases}
@@ -18,7 +18,7 @@ use Rattle.fp_model.specs.declared.raw.attribute.RawCode.{RawCode, out-RawCode}
 use Rattle.fp_model.specs.declared.raw.attribute.RawIns.{RawIns}
 use Rattle.fp_model.specs.declared.raw.pool.Entry.{Entry}
 use Rattle.fp_model.specs.declared.raw.pool.Entry.TheVariants as entry
-use Rattle.fp_model.specs.CodeOver.{IsBootArgOver, IsCodeOver, IsElementOver, IsFieldRefOver, IsGuardOver, IsInstrOver, IsMemberOver, IsMethodRefOver, IsSiteOver, SaysDescr}
+use Rattle.fp_model.specs.CodeOver.{IsBootArgOver, IsCodeOver, IsElementOver, IsFieldRefOver, IsGuardOver, IsInstrOver, IsMemberOver, IsMethodRefOver, SaysDescr}
 use Rattle.fp_model.specs.Descriptor.{is_array_like, is_kind, IsDescrOf, IsKindOf}
 use Rattle.fp_model.specs.Entries.{class_name_at, text_at}
 use Rattle.fp_model.specs.NamedInstructions.{is_call_op, is_class_op, is_field_op, member_at, IsArrayInstr, IsCallInstr, IsClassInstr, IsClassKindBy, IsFieldInstr, IsMember, IsMultiArrayInstr, IsNamedInstr, IsOf, MemberTexts}

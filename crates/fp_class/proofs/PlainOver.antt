@@ -1,13 +1,11 @@
 -- An instruction that takes no name from the constant pool asks for nothing of a table of names.
-use Rattle.std.proofs.Common.{◌≡◌, ℕ, ◌-◌, ◌/◌, ◌%◌, Bool, true, false, cond, ◌||◌, ◌==◌, List, [], Option, Some, None, codes, refl, subst}
+use Rattle.std.proofs.Common.{◌≡◌, ℕ, ◌-◌, Bool, true, false, cond, ◌||◌, ◌==◌, List, [], Option, Some, None, codes, refl, subst}
 use Rattle.std.specs.Prelude.{nat_lt, slice_index, IfSome}
 use Rattle.std.specs.Int.{w8, w16}
 use Rattle.std.specs.Option.{option_map, option_or}
 use Rattle.fp_model.specs.declared.class.instr.Instr.{Instr}
 use Rattle.fp_model.specs.declared.class.instr.Instr.TheVariants as instr
 use Rattle.fp_model.specs.declared.kind.Kind.{Kind}
-use Rattle.fp_model.specs.declared.kind.Kind.TheVariants as kind
-use Rattle.fp_model.specs.declared.kind.Sort.TheVariants as sort
 use Rattle.fp_model.specs.declared.raw.attribute.RawIns.{RawIns}
 use Rattle.fp_model.specs.declared.raw.pool.Entry.{Entry}
 use Rattle.fp_model.specs.declared.raw.pool.Entry.TheVariants as entry
