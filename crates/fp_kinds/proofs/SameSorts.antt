@@ -1,10 +1,8 @@
 -- Words that are compared one by one.
-use Rattle.std.proofs.Common.{◌≡◌, ◌≢◌, ◌<◌, ◌+◌, ℕ, suc, Bool, true, false, List, [], ◌∷◌, length, drop, slice_index_or, refl, sym, ap, subst, ◌∙◌, cond}
+use Rattle.std.proofs.Common.{◌≡◌, ◌≢◌, ◌<◌, ◌+◌, ℕ, suc, Bool, true, false, List, [], ◌∷◌, length, drop, slice_index_or, refl, ap, ◌∙◌, cond}
 use Rattle.std.proofs.lemmas.List.{drop_more}
 use Rattle.fp_model.specs.declared.kind.Sort.{Sort}
-use Rattle.std.proofs.lemmas.Bool.{both_ways, cond-true}
 use Rattle.fp_facts.specs.Sorts.{same_sort, same_sorts}
-use Rattle.fp_facts.proofs.OrderedSorts.{same_sort-true, same_sort-refl}
 
 same-either : (t : Bool) → cond t false false ≡ false
 same-either true = refl

@@ -7,7 +7,7 @@ ghost use Rattle.fp_facts.specs.declared.effect.Effect.TheVariants.{Loads, Store
 use crate::words::{ends_with, ends_with_operands};
 use fp_facts::{Effect, Label, Operands, Shuffling};
 use fp_flow::{
-    is_wide, push_words, same_sort, shuffled, without_operands, without_top, word_at,
+    is_wide, push_words, same_sort, shuffled, width, without_operands, without_top, word_at,
     word_at_depth, words_of,
 };
 use fp_model::Sort;
@@ -55,14 +55,13 @@ fn stored_word(sort: Sort, at: usize, place: usize, old: Sort) -> Sort
     requires { at ≤ 65535 }
     ensures { result ≡ transfer.stored_word sort at place old }
 {
-    let width = if is_wide(sort) { 2 } else { 1 };
     if place == at {
         sort
     } else if is_wide(sort) && place == at + 1 {
         Sort::Half
     } else if at > 0 && place == at - 1 && is_wide(old) {
         Sort::Unset
-    } else if place == at + width && same_sort(old, Sort::Half) {
+    } else if place == at + width(sort) && same_sort(old, Sort::Half) {
         Sort::Unset
     } else {
         old

@@ -1,5 +1,5 @@
 -- The origins of a word ascend.
-use Rattle.std.proofs.Common.{◌≡◌, ◌+◌, ◌<◌, ◌≤◌, ◌==◌, ◌&&◌, nat_lt, nat_le, ℕ, Bool, true, false, List, [], ◌∷◌, ◌++◌, Option, Some, None, IfSome, All, length, map, filter, get_or, slice_get, is_some, cond, refl, sym, ap, subst, ◌∙◌, arith, append_assoc}
+use Rattle.std.proofs.Common.{◌≡◌, ◌+◌, ◌<◌, ◌==◌, nat_lt, nat_le, ℕ, Bool, true, false, List, [], ◌∷◌, ◌++◌, Some, None, IfSome, All, length, map, filter, get_or, slice_get, is_some, cond, refl, sym, ap, subst, ◌∙◌, arith, append_assoc}
 use Rattle.std.specs.List.{range_with_len}
 use Rattle.std.specs.Option.{option_map_or}
 use Rattle.std.proofs.lemmas.Bool.{and_parts, both_ways, le-leb, leb-true, lt-ltb, ltb-true}
@@ -10,7 +10,7 @@ use Rattle.fp_model.specs.declared.class.instr.Instr.{Instr}
 use Rattle.fp_model.specs.declared.kind.Kind.{Kind}
 use Rattle.fp_model.specs.declared.kind.Sort.{Sort}
 use Rattle.fp_model.specs.Flags.{is_static}
-use Rattle.fp_model.specs.SoundCode.{IsSoundCode, IsSoundMethod, ascend_above, ascend_from_0, pcs_of}
+use Rattle.fp_model.specs.SoundCode.{IsSoundCode, IsSoundMethod, ascend_above, ascend_from_0}
 use Rattle.fp_facts.specs.declared.label.Label.{Label}
 use Rattle.fp_facts.specs.declared.label.Label.TheVariants.{Unreached, Bad, Frame}
 use Rattle.fp_facts.specs.declared.origin.Origin.{Origin}

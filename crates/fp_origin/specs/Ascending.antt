@@ -1,5 +1,5 @@
 -- The order of origins: the arguments by their numbers, then allocations and then results by their offsets, and what comes from elsewhere.
-use Rattle.std.specs.Prelude.{◌≡◌, ℕ, nat_lt, Bool, true, false, List, [], ◌∷◌, All}
+use Rattle.std.specs.Prelude.{◌≡◌, nat_lt, Bool, true, false, List, [], ◌∷◌, All}
 use Rattle.fp_facts.specs.declared.origin.Origin.{Origin}
 use Rattle.fp_facts.specs.declared.origin.Origin.TheVariants as origin
 
