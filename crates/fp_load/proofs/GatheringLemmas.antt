@@ -2,7 +2,7 @@
 use Rattle.std.proofs.Common.{◌≡◌, ℕ, ◌<◌, Bool, true, false, not, List, [], ◌∷◌, ◌++◌, Some, length, sym, ap, subst, ◌∙◌, arith}
 use Rattle.std.specs.Prelude.{◌↔◌, IsNone}
 use Rattle.std.specs.List.{flat_map, AllZip}
-use Rattle.std.proofs.lemmas.Bool.{cond-true, false_from_ne_true}
+use Rattle.std.proofs.lemmas.Bool.{cond-false, cond-true, false_from_ne_true}
 use Rattle.std.proofs.lemmas.Grind.{flat_map-append}
 use Rattle.std.proofs.lemmas.List.{append-nil}
 use Rattle.std.proofs.lemmas.List.Elements.{All-push, filter-append}
@@ -12,10 +12,10 @@ use Rattle.fp_model.specs.declared.class.Class.{Class}
 use Rattle.fp_model.specs.declared.raw.Raw.{Raw}
 use Rattle.fp_model.proofs.LongerTables.{Keeps}
 use Rattle.fp_class.specs.ClassFile.{is_module, IsWellFormed}
-use Rattle.fp_class.specs.Classes.{IsClassOf}
+use Rattle.fp_class.specs.Classes.{raw_names, IsClassOf}
 use Rattle.fp_class.specs.Naming.{taken_names}
 use Rattle.fp_class.proofs.LongerClasses.{classes_more}
-use Rattle.fp_load.specs.Gathering.{with_class, AreNumbered, IsNamed}
+use Rattle.fp_load.specs.Gathering.{path_of, with_class, AreNumbered, IsNamed}
 use Rattle.fp_load.specs.Load.{most_names, names_of}
 
 -- the texts of one class file more
@@ -44,7 +44,33 @@ class_named raws raw names longer classes more c kept taken is none pushed named
       (classes_more names longer kept classes (with_class raws) c raw named.classes_are is));
 }
 
+-- a module gives no text and no class
+pub module_named : (raws : List Raw) (raw : Raw) (names longer : List (List ℕ)) (classes : List Class) → is_module raw.flags ≡ true → longer ≡ with_names names (taken_names raw)
+    → IsNamed raws names classes → IsNamed (raws ++ raw ∷ []) longer classes
+module_named raws raw names longer classes module_ taken named =
+    let none : with_class (raws ++ raw ∷ []) ≡ with_class raws =
+    filter-append (λ r. not (is_module r.flags)) raws (raw ∷ [])
+    ∙ ap (λ l. with_class raws ++ l) (cond-false (not (is_module raw.flags)) (raw ∷ []) [] (ap not module_))
+    ∙ append-nil (with_class raws) in
+    let same : longer ≡ names = taken ∙ ap (with_names names) (cond-true (is_module raw.flags) [] (raw_names raw) module_) in
+    record {
+      names_are = taken ∙ ap (λ n. with_names n (taken_names raw)) named.names_are ∙ sym (names_more raws raw);
+      classes_are = subst (AllZip (IsClassOf longer) classes) (sym none) (subst (λ n. AllZip (IsClassOf n) classes (with_class raws)) (sym same) named.classes_are);
+    }
+
+-- the path of a file that has a class, and of one that has none
+pub path_with_class : (path : List ℕ) (raw : Raw) (c : Class) → IsNone (Some c) ↔ (is_module raw.flags ≡ true) → path_of path raw ≡ path ∷ []
+path_with_class path raw c none = cond-false (is_module raw.flags) [] (path ∷ []) (no_module c raw none)
+
+pub path_without_class : (path : List ℕ) (raw : Raw) → is_module raw.flags ≡ true → path_of path raw ≡ []
+path_without_class path raw module_ = cond-true (is_module raw.flags) [] (path ∷ []) module_
+
 -- ---- a full table
+
+pub full_named : (raws : List Raw) (raw : Raw) (names : List (List ℕ)) (classes : List Class) → most_names < length (with_names names (taken_names raw))
+    → IsNamed raws names classes → most_names < length (names_of (raws ++ raw ∷ []))
+full_named raws raw names classes many named =
+    subst (λ t. most_names < length t) (ap (λ n. with_names n (taken_names raw)) named.names_are ∙ sym (names_more raws raw)) many
 
 -- too many texts stay too many
 crowded_more : (raws : List Raw) (raw : Raw) → most_names < length (names_of raws) → most_names < length (names_of (raws ++ raw ∷ []))

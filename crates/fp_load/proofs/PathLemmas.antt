@@ -1,9 +1,8 @@
 -- What a listing says of the told files.
-use Rattle.std.proofs.Common.{◌≡◌, ℕ, ◌+◌, ◌<◌, nat_lt, Bool, true, false, List, [], ◌∷◌, length, map, get_or, Option, Some, Result, Ok, Err, OnOk, refl, sym, ap, subst, ◌∙◌, arith, is_lt, nat_cmp}
+use Rattle.std.proofs.Common.{◌≡◌, ℕ, ◌+◌, ◌<◌, nat_lt, Bool, true, false, List, [], ◌∷◌, length, map, get_or, Option, Some, Err, refl, sym, ap, subst, ◌∙◌, arith, is_lt, nat_cmp}
 use Rattle.std.specs.Prelude.{IsSome, All, Contains, IsPermutation, if◌then◌else◌}
 use Rattle.std.specs.Cmp.Lexicographic.{slice_cmp}
 use Rattle.std.specs.List.Sorted.{IsSorted}
-use Rattle.std.specs.Result.{is_err}
 use Rattle.std.specs.Str.{bytes_eq}
 use Rattle.std.proofs.lemmas.Bool.{cond-true, lt-ltb}
 use Rattle.std.proofs.lemmas.List.{map-id, get_or-map, length-map}
@@ -16,11 +15,6 @@ use Rattle.fp_base.proofs.OrderLemmas.{sorted_is_order}
 use Rattle.fp_model.specs.declared.limit.LimitName.TheVariants.{Files}
 use Rattle.fp_load.specs.Load.{loaded_of, loaded_of_bytes, files_below, passed_from, most_files}
 use Rattle.fp_load.specs.Load.LoadRefusal.{Passed}
-
--- what is said of a value, where there is no fault
-pub where_ok : {T E P : Type 0} (r : Result T E) → is_err r ≡ false → OnOk r P → P
-where_ok (Ok x) none is = is
-where_ok (Err e) none is = absurd cc
 
 -- ---- the order of the texts
 

@@ -1,10 +1,10 @@
-ghost use Rattle.std.specs.Prelude.{◌≡◌, ◌≤◌, List, [], length, All, Ok, IfOk, IfErr, IsTrue, string_bytes};
+ghost use Rattle.std.specs.Prelude.{◌≡◌, ◌≤◌, ◌<◌, List, [], length, All, Ok, IfOk, IfErr, IsTrue, string_bytes};
 ghost use Rattle.fp_base.specs.Files.{File};
 ghost use Rattle.fp_facts.specs.Kinded.{IsKindedMethod};
 ghost use Rattle.fp_load.specs.Causes.{Blames, Keeps};
 ghost use Rattle.fp_load.specs.Faults.{Tells};
 ghost use Rattle.fp_load.specs.Gathering.{IsGathered};
-ghost use Rattle.fp_load.specs.Load.{faults_of, loaded_of, loaded_of_faults};
+ghost use Rattle.fp_load.specs.Load.{faults_of, loaded_of, loaded_of_faults, most_files};
 ghost use Rattle.fp_model.specs.ClassSet.{methods_of};
 ghost use Rattle.fp_model.specs.SoundCode.{IsSoundMethod};
 
@@ -35,18 +35,15 @@ pub fn load<D: ClassDir>(alloc: Global, dir: &mut D, job: &Job) -> Result<Loaded
     // A fault is what they call for.
     ensures fault { IfErr result (λ fault. IsTrue (D.tells dir.old) → Tells (loaded_of (D.files dir.old) (string_bytes job.now.dir)) fault) }
     ensures blames { IfErr result (λ fault. Blames (string_bytes job.now.dir) (D.listed dir.new) (D.failed dir.old) (D.failed dir.new) fault) }
+    // Of too many files none is read.
+    ensures unread { most_files < length (D.listed dir.new) → D.readings dir.new ≡ D.readings dir.old }
 {
-    let gathered = match gather_below(alloc, dir, job.dir.as_str()) {
-        Ok(gathered) => gathered,
-        Err(fault) => return Err(fault),
-    };
-    match finish(alloc, gathered) {
-        Ok(set) => Ok(Loaded {
-            set,
-            assume: Assume::none(alloc),
-        }),
-        Err(fault) => Err(fault),
-    }
+    let gathered = gather_below(alloc, dir, job.dir.as_str())?;
+    let set = finish(alloc, gathered)?;
+    Ok(Loaded {
+        set,
+        assume: Assume::none(alloc),
+    })
 }
 
 /// What is gathered of the class files below a directory, of which there are not too many.
@@ -56,14 +53,10 @@ fn gather_below<D: ClassDir>(alloc: Global, dir: &mut D, path: &str) -> Result<G
         × (IsTrue (D.tells dir.old) → loaded_of (D.files dir.old) path.now ≡ loaded_of_faults files (faults_of files))) }
     ensures fault { IfErr result (λ fault. IsTrue (D.tells dir.old) → Tells (loaded_of (D.files dir.old) path.now) fault) }
     ensures blames { IfErr result (λ fault. Blames path.now (D.listed dir.new) (D.failed dir.old) (D.failed dir.new) fault) }
+    ensures unread { most_files < length (D.listed dir.new) → D.readings dir.new ≡ D.readings dir.old }
 {
-    let paths = match list_paths(alloc, dir, path) {
-        Ok(paths) => paths,
-        Err(fault) => return Err(fault),
-    };
+    let paths = list_paths(alloc, dir, path)?;
     let mut gathered = nothing(alloc);
-    match gather(alloc, dir, paths.as_slice(), &mut gathered) {
-        Ok(()) => Ok(gathered),
-        Err(fault) => Err(fault),
-    }
+    gather(alloc, dir, paths.as_slice(), &mut gathered)?;
+    Ok(gathered)
 }

@@ -1,5 +1,6 @@
 use fp_model::{FileFault, LimitName, SetFault};
 use sqlite_items::Items;
+use std::alloc::AllocError;
 
 /// Why a file is refused.
 #[derive(Clone, Copy, Debug, PartialEq, Eq)]
@@ -24,4 +25,28 @@ pub enum LoadFault {
     Set(SetFault),
     /// Memory ran out.
     Memory,
+}
+
+impl From<AllocError> for LoadFault {
+    ghost use Rattle.std.specs.Prelude.{◌≡◌};
+    ghost use Rattle.fp_load.specs.declared.fault.LoadFault.TheVariants.{Memory};
+
+    ghost from_gives = { λ _ fault. fault ≡ Memory };
+
+    fn from(_: AllocError) -> LoadFault {
+        LoadFault::Memory
+    }
+}
+
+impl From<SetFault> for LoadFault {
+    ghost use Rattle.fp_load.specs.Faults.{IsUnsound};
+
+    ghost from_gives = { IsUnsound };
+
+    fn from(why: SetFault) -> LoadFault {
+        match why {
+            SetFault::Memory => LoadFault::Memory,
+            why => LoadFault::Set(why),
+        }
+    }
 }

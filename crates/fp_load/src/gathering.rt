@@ -1,9 +1,9 @@
-ghost use Rattle.std.specs.Prelude.{◌≡◌, ℕ, ◌≤◌, ◌<◌, false, ◌++◌, ◌∷◌, [], List, length, map, All, IsSome, IsTrue, OnOk, IfErr, IsErrOf, Ok, Err};
+ghost use Rattle.std.specs.Prelude.{◌≡◌, ℕ, ◌≤◌, ◌<◌, false, ◌++◌, ◌∷◌, [], List, length, map, All, IsSome, IsTrue, OnOk, IfErr, Err};
 ghost use Rattle.fp_base.specs.Files.{File, bytes_at, texts};
 ghost use Rattle.fp_class.specs.ClassFile.{class_of, IsWellFormed};
 ghost use Rattle.fp_load.specs.Causes.{Keeps};
-ghost use Rattle.fp_load.specs.Gathering.{AreNumbered, HasRead, IsGathered, IsNamed, path_of};
-ghost use Rattle.fp_load.specs.Load.{most_names, names_of, passed_from};
+ghost use Rattle.fp_load.specs.Gathering.{AreNumbered, HasRead, IsGathered, path_of};
+ghost use Rattle.fp_load.specs.Load.{passed_from};
 ghost use Rattle.fp_load.specs.Steps.{file_at, BlamesReading, TellsPassed};
 ghost use Rattle.fp_model.specs.declared.raw.Raw.{Raw};
 
@@ -43,44 +43,24 @@ pub fn nothing(alloc: Global) -> Gathered
     }
 }
 
-/// Adds the class of a class file; a module has none.
+/// Adds a class and the path of its file.
 fn add_class(
     alloc: Global,
-    raw: &Raw,
-    names: &mut Names,
+    class: Class,
+    path: &str,
     classes: &mut Vec<Class>,
-) -> Result<(), NameFault>
-    requires { IsWellFormed raw.now }
-    ensures named { OnOk result ((raws : List Raw) → IsNamed raws names.old classes.old.items → IsNamed (raws ++ raw.now ∷ []) names.new classes.new.items) }
-    ensures full { IsErrOf result NameFault.Full → (raws : List Raw) → IsNamed raws names.old classes.old.items → most_names < length (names_of (raws ++ raw.now ∷ [])) }
+    paths: &mut Vec<String>,
+) -> Result<(), AllocError>
+    ensures classes { OnOk result (classes.new.items ≡ classes.old.items ++ class ∷ []) }
+    ensures paths { OnOk result (texts paths.new.items ≡ texts paths.old.items ++ path.now ∷ []) }
 {
-    match to_class(alloc, raw, names) {
-        Ok(Some(class)) => {
-            if classes.push(class).is_err() {
-                return Err(NameFault::Memory);
-            }
-            Ok(())
-        }
-        Ok(None) => Ok(()),
-        Err(fault) => Err(fault),
-    }
-}
-
-/// The flag of a module.
-const ACC_MODULE: u16 = 0x8000;
-
-/// Adds the path of a class file, unless it is a module's.
-fn add_path(alloc: Global, paths: &mut Vec<String>, path: &str, raw: &Raw) -> Result<(), AllocError>
-    ensures { OnOk result (texts paths.new.items ≡ texts paths.old.items ++ path_of path.now raw.now) }
-{
-    if raw.flags & ACC_MODULE != 0 {
-        return Ok(());
-    }
-    paths.push(String::from_str(alloc, path)?)?;
+    let path = String::from_str(alloc, path)?;
+    classes.push(class)?;
+    paths.push(path)?;
     Ok(())
 }
 
-/// Adds a class file, while the table of names has room.
+/// Adds the class of a class file, while the table of names has room. A module has no class.
 fn add_raw(alloc: Global, gathered: &mut Gathered, path: &str, raw: &Raw) -> Result<(), AllocError>
     requires { IsWellFormed raw.now }
     ensures faults { OnOk result (gathered.new.faults ≡ gathered.old.faults) }
@@ -92,11 +72,18 @@ fn add_raw(alloc: Global, gathered: &mut Gathered, path: &str, raw: &Raw) -> Res
     if gathered.full {
         return Ok(());
     }
-    match add_class(alloc, raw, &mut gathered.names, &mut gathered.classes) {
-        Ok(()) => {
-            add_path(alloc, &mut gathered.paths, path, raw)?;
+    match to_class(alloc, raw, &mut gathered.names) {
+        Ok(Some(class)) => {
+            add_class(
+                alloc,
+                class,
+                path,
+                &mut gathered.classes,
+                &mut gathered.paths,
+            )?;
             Ok(())
         }
+        Ok(None) => Ok(()),
         Err(NameFault::Full) => {
             gathered.full = true;
             Ok(())
@@ -154,14 +141,9 @@ pub fn gather<D: ClassDir>(
 {
     let mut sum = 0;
     for path in paths {
-        let bytes = match read_file(alloc, dir, path.as_str(), sum) {
-            Ok(bytes) => bytes,
-            Err(fault) => return Err(fault),
-        };
+        let bytes = read_file(alloc, dir, path.as_str(), sum)?;
         sum += bytes.len() as u64;
-        if add_file(alloc, gathered, path.as_str(), &bytes).is_err() {
-            return Err(LoadFault::Memory);
-        }
+        add_file(alloc, gathered, path.as_str(), &bytes)?;
     }
     Ok(())
 }

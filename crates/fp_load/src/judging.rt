@@ -141,10 +141,7 @@ pub(crate) fn judge(alloc: Global, classes: &[Class], paths: &[String]) -> Resul
     if any_large(classes) {
         return Err(LoadFault::Limit(LimitName::FrameWords, MOST_FRAME_WORDS));
     }
-    let refused = match refusals(alloc, classes, paths) {
-        Ok(refused) => refused,
-        Err(_) => return Err(LoadFault::Memory),
-    };
+    let refused = refusals(alloc, classes, paths)?;
     if !refused.is_empty() {
         return Err(LoadFault::Refused(refused));
     }

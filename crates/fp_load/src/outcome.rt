@@ -4,7 +4,7 @@ ghost use Rattle.fp_load.specs.Faults.{Tells};
 ghost use Rattle.fp_load.specs.Gathering.{IsGathered};
 ghost use Rattle.fp_load.specs.Load.{faults_of, loaded_of_faults, loaded_of_set};
 ghost use Rattle.fp_load.specs.Steps.{IsInner};
-ghost use Rattle.fp_model.specs.ClassSet.{AreFew, IsClassOver, SetView, TellsRefusal, methods_of, refusal_of};
+ghost use Rattle.fp_model.specs.ClassSet.{AreFew, IsClassOver, methods_of, refusal_of};
 ghost use Rattle.fp_model.specs.SoundCode.{IsSoundMethod};
 ghost use Rattle.fp_facts.specs.Kinded.{IsKindedMethod};
 
@@ -12,7 +12,7 @@ use crate::fault::LoadFault;
 use crate::gathering::Gathered;
 use crate::judging::judge;
 use fp_base::{MAX_NAMES, Names};
-use fp_model::{Class, ClassSet, LimitName, SetFault};
+use fp_model::{Class, ClassSet, LimitName};
 use std::alloc::Global;
 
 /// The most methods that a set may have.
@@ -40,10 +40,8 @@ pub fn finish(alloc: Global, gathered: Gathered) -> Result<ClassSet, LoadFault>
     if full {
         return Err(LoadFault::Limit(LimitName::Names, u64::from(MAX_NAMES)));
     }
-    match judge(alloc, classes.as_slice(), paths.as_slice()) {
-        Ok(()) => build_set(alloc, classes, names),
-        Err(fault) => Err(fault),
-    }
+    judge(alloc, classes.as_slice(), paths.as_slice())?;
+    build_set(alloc, classes, names)
 }
 
 /// The set of classes, or why they are none.
@@ -55,24 +53,10 @@ fn build_set(alloc: Global, classes: Vec<Class>, names: Names) -> Result<ClassSe
     ensures fault { IfErr result (λ fault. Tells (loaded_of_set (record { classes = classes.items; names = names }) (refusal_of (record { classes = classes.items; names = names }))) fault) }
     ensures inner { IfErr result IsInner }
 {
-    let set = match ClassSet::build(alloc, classes, names) {
-        Ok(set) => set,
-        Err(fault) => return Err(unsound(fault)),
-    };
+    let set = ClassSet::build(alloc, classes, names)?;
     let (_classes, _fields, methods) = set.counts();
     if methods > MOST_METHODS {
         return Err(LoadFault::Limit(LimitName::Methods, u64::from(MOST_METHODS)));
     }
     Ok(set)
-}
-
-/// That classes are no sound set.
-fn unsound(fault: SetFault) -> LoadFault
-    ensures tells { (set : SetView) → TellsRefusal (refusal_of set) fault → Tells (loaded_of_set set (refusal_of set)) result }
-    ensures inner { IsInner result }
-{
-    match fault {
-        SetFault::Memory => LoadFault::Memory,
-        why => LoadFault::Set(why),
-    }
 }

@@ -1,4 +1,4 @@
-ghost use Rattle.std.specs.Prelude.{◌≡◌, ◌≤◌, length, All, Contains, IsSome, IsTrue, IfOk, IfErr};
+ghost use Rattle.std.specs.Prelude.{◌≡◌, ◌≤◌, length, All, Contains, IsSome, IsTrue, IfOk, OnOk, IfErr};
 ghost use Rattle.std.specs.List.{AllPass};
 ghost use Rattle.fp_base.specs.Files.{bytes_at, class_paths, is_class_file, texts};
 ghost use Rattle.fp_base.specs.Order.{in_text_order};
@@ -22,6 +22,7 @@ pub fn list_paths<D: ClassDir>(
     path: &str,
 ) -> Result<Vec<String>, LoadFault>
     ensures keeps { Keeps (D.tells dir.old) (D.files dir.old) (D.failed dir.old) (D.tells dir.new) (D.files dir.new) (D.failed dir.new) }
+    ensures unread { D.readings dir.new ≡ D.readings dir.old }
 
     // The paths that are told; each of them was listed.
     ensures told { IfOk result (λ paths. IsTrue (D.tells dir.old) → texts paths.items ≡ in_text_order (class_paths (D.files dir.old) path.now)) }
@@ -29,6 +30,7 @@ pub fn list_paths<D: ClassDir>(
     ensures listed { IfOk result (λ paths. All (Contains (D.listed dir.new)) (texts paths.items)) }
     ensures below { IfOk result (λ paths. AllPass (is_class_file path.now) (texts paths.items)) }
     ensures few { IfOk result (λ paths. length paths.items ≤ 20000) }
+    ensures listed_few { OnOk result (length (D.listed dir.new) ≤ 20000) }
     ensures told_few { IfOk result (λ paths. IsTrue (D.tells dir.old) → length (class_paths (D.files dir.old) path.now) ≤ 20000) }
 
     ensures fault { IfErr result (λ fault. IsTrue (D.tells dir.old) → Tells (loaded_of (D.files dir.old) path.now) fault) }
@@ -43,9 +45,7 @@ pub fn list_paths<D: ClassDir>(
     if paths.len() > MOST_FILES {
         return Err(LoadFault::Limit(LimitName::Files, MOST_FILES as u64));
     }
-    if paths.sort().is_err() {
-        return Err(LoadFault::Memory);
-    }
+    paths.sort()?;
     Ok(paths)
 }
 

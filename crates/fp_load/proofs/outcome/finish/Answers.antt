@@ -1,6 +1,6 @@
 use Rattle.std.proofs.Common.{◌≡◌, ◌<◌, ◌^◌, List, sym, subst, ap, length, arith}
 use Rattle.std.specs.Prelude.{All, string_bytes}
-use Rattle.std.proofs.lemmas.Result.{IfOk-weaker}
+use Rattle.std.proofs.lemmas.Result.{IfOk-weaker, err_from_is_err_and}
 use Rattle.fp_model.specs.declared.class.Class.{Class}
 use Rattle.fp_load.specs.Judging.{AreKindedClasses, AreSoundClasses}
 use Rattle.std.proofs.lemmas.List.{length-map}
@@ -44,30 +44,30 @@ build_set-requires-clause-few c =
     let (files, few, gathered) = c.requires in
     AreFew-classes c.args.gathered.names c.args.gathered.classes.items files (gathered.numbered.named c.if-full.false).classes_are gathered.numbered.formed few
 
-pub returns-in-Ok-clause-set : goal.returns-in-Ok-clause-set
-returns-in-Ok-clause-set c =
+pub returns-clause-set : goal.returns-clause-set
+returns-clause-set c =
     set_loaded c.build_set.result
     (loaded_of_set (record { classes = c.args.gathered.classes.items; names = c.args.gathered.names }) (refusal_of (record { classes = c.args.gathered.classes.items; names = c.args.gathered.names })))
     (λ files. IsGathered files c.args.gathered) (λ files. loaded_of_faults files (faults_of files))
     (λ files gathered. loaded-is files c.args.gathered.names c.args.gathered.classes.items (texts c.args.gathered.paths.items)
     (none_refused c.args.gathered.faults (faults_of files) (c.is_empty.ensures.0 c.if-not-is_empty.false) gathered.faults_are)
     (omega (arith, c.names.invariant.within_limit, ap length c.names.view_is)) (gathered.numbered.named c.if-full.false) (gathered.paths_are c.if-full.false)
-    (rw c.as_slice.ensures.value at c.in-Ok.ensures.small) (rw (c.as_slice.ensures.value, c.as_slice-2.ensures.value) at c.in-Ok.ensures.none))
+    (rw c.as_slice.ensures.value at c.in_ok-judge.ensures.small) (rw (c.as_slice.ensures.value, c.as_slice-2.ensures.value) at c.in_ok-judge.ensures.none))
     c.build_set.ensures.set
 
-pub returns-in-Ok-clause-fault : goal.returns-in-Ok-clause-fault
-returns-in-Ok-clause-fault c =
+pub returns-clause-fault : goal.returns-clause-fault
+returns-clause-fault c =
     fault_told c.build_set.result
     (loaded_of_set (record { classes = c.args.gathered.classes.items; names = c.args.gathered.names }) (refusal_of (record { classes = c.args.gathered.classes.items; names = c.args.gathered.names })))
     (λ files. IsGathered files c.args.gathered) (λ files. loaded_of_faults files (faults_of files))
     (λ files gathered. loaded-is files c.args.gathered.names c.args.gathered.classes.items (texts c.args.gathered.paths.items)
     (none_refused c.args.gathered.faults (faults_of files) (c.is_empty.ensures.0 c.if-not-is_empty.false) gathered.faults_are)
     (omega (arith, c.names.invariant.within_limit, ap length c.names.view_is)) (gathered.numbered.named c.if-full.false) (gathered.paths_are c.if-full.false)
-    (rw c.as_slice.ensures.value at c.in-Ok.ensures.small) (rw (c.as_slice.ensures.value, c.as_slice-2.ensures.value) at c.in-Ok.ensures.none))
+    (rw c.as_slice.ensures.value at c.in_ok-judge.ensures.small) (rw (c.as_slice.ensures.value, c.as_slice-2.ensures.value) at c.in_ok-judge.ensures.none))
     c.build_set.ensures.fault
 
-pub returns-in-Ok-clause-sound : goal.returns-in-Ok-clause-sound
-returns-in-Ok-clause-sound c =
+pub returns-clause-sound : goal.returns-clause-sound
+returns-clause-sound c =
     let (files, few, gathered) = c.requires in
     IfOk-weaker c.build_set.result (λ (set : SetView). set ≡ record { classes = c.args.gathered.classes.items; names = c.args.gathered.names }) (λ (set : SetView). All IsSoundMethod (methods_of set.classes))
     (λ set same. subst (λ (s : SetView). All IsSoundMethod (methods_of s.classes)) (sym same)
@@ -75,16 +75,18 @@ returns-in-Ok-clause-sound c =
     (gathered-sound c.args.gathered.names c.args.gathered.classes.items files (gathered.numbered.named c.if-full.false).classes_are gathered.numbered.formed)))
     c.build_set.ensures.same
 
-pub returns-in-Ok-clause-kinded : goal.returns-in-Ok-clause-kinded
-returns-in-Ok-clause-kinded c =
+pub returns-clause-kinded : goal.returns-clause-kinded
+returns-clause-kinded c =
     IfOk-weaker c.build_set.result (λ (set : SetView). set ≡ record { classes = c.args.gathered.classes.items; names = c.args.gathered.names }) (λ (set : SetView). All IsKindedMethod (methods_of set.classes))
     (λ set same. subst (λ (s : SetView). All IsKindedMethod (methods_of s.classes)) (sym same)
-    (all-methods IsKindedMethod c.args.gathered.classes.items (subst AreKindedClasses c.as_slice.ensures.value c.in-Ok.ensures.kinded)))
+    (all-methods IsKindedMethod c.args.gathered.classes.items (subst AreKindedClasses c.as_slice.ensures.value c.in_ok-judge.ensures.kinded)))
     c.build_set.ensures.same
 
-pub returns-in-Err-clause-fault : goal.returns-in-Err-clause-fault
-returns-in-Err-clause-fault c = λ files gathered.
+pub returns-in_err-judge-clause-fault : goal.returns-in_err-judge-clause-fault
+returns-in_err-judge-clause-fault c =
+    let p = err_from_is_err_and c.from_residual.result c.from_residual.ensures.1 in
+    rw (p.1, p.2) (λ files gathered.
     judged-told files c.args.gathered.names c.args.gathered.classes.items (texts c.args.gathered.paths.items)
     (none_refused c.args.gathered.faults (faults_of files) (c.is_empty.ensures.0 c.if-not-is_empty.false) gathered.faults_are)
     (omega (arith, c.names.invariant.within_limit, ap length c.names.view_is)) (gathered.numbered.named c.if-full.false) (gathered.paths_are c.if-full.false)
-    c.in-Err.fault (rw (c.as_slice.ensures.value, c.as_slice-2.ensures.value) at c.in-Err.ensures.fault)
+    c.in_err-judge.field-0.0 (rw (c.as_slice.ensures.value, c.as_slice-2.ensures.value) at c.in_err-judge.ensures.fault))
