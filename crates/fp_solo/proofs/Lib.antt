@@ -4,3 +4,4 @@ pub mod ReadLemmas
 pub mod JoinLemmas
 pub mod QuestionLemmas
 pub mod WorkLemmas
+pub mod CountLemmas

@@ -4,6 +4,7 @@ use Rattle.std.proofs.lemmas.Bool.{cases_eq, cases_lt, eqb-true}
 use Rattle.std.proofs.lemmas.List.{get_or_past, get_or-set_same, get_or-set_other}
 use Rattle.fp_eqs.specs.Answers.{asked, distinct}
 use Rattle.fp_eqs.specs.Counts.{count_below-most, few-distinct}
+use Rattle.fp_eqs.specs.Equations.{IsLawful, Task}
 use Rattle.fp_eqs.specs.Solved.{flag_at}
 use Rattle.fp_eqs.specs.Tests.{left, right, either, place-here}
 use Rattle.fp_eqs.proofs.ReadingLemmas.{asked-push}
@@ -35,3 +36,8 @@ flag-back flags es rest p w q inside popped seen h = elim (cases_eq q p) [
 -- distinct places are no more than there are
 pub few-answers : (es : List (ℕ × ℕ)) (places : ℕ) → IsTrue (distinct es) → ((p : ℕ) → IsTrue (asked es p) → p < places) → length es ≤ places
 few-answers es places once inside = omega (arith, few-distinct es (asked es) places once (λ p h. h) inside, count_below-most (asked es) places)
+
+-- nor more than a task may ask
+pub few-asks : (places : ℕ) (k : Task) (a : ℕ → ℕ) (es : List (ℕ × ℕ)) → IsLawful places k → IsTrue (distinct es) → ((p : ℕ) → asked es p ≡ k.uses a p) → length es ≤ k.asks
+few-asks places k a es law once asks =
+    omega (arith, few-distinct es (k.uses a) places once (λ p h. subst (λ b. IsTrue b) (asks p) h) (law.uses_places a), law.uses_few a)

@@ -5,3 +5,4 @@ pub mod Agenda
 pub mod Recorded
 pub mod Asked
 pub mod Working
+pub mod Counted

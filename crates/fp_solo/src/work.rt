@@ -1,5 +1,5 @@
 //! What a solver holds, and one step of it.
-ghost use Rattle.std.specs.Prelude.{◌≡◌, ◌+◌, ◌<◌, ◌≤◌, ℕ, false, [], IsTrue, IfOk, OnOk, length, slice_index, if◌then◌else◌};
+ghost use Rattle.std.specs.Prelude.{◌≡◌, ◌+◌, ◌<◌, ◌≤◌, ◌^◌, ℕ, false, [], IsTrue, IfOk, OnOk, length, slice_index, if◌then◌else◌};
 ghost use Rattle.fp_eqs.specs.Answers.{IsGiven, asked, distinct};
 ghost use Rattle.fp_eqs.specs.Bounds.{evaluation_bound};
 ghost use Rattle.fp_eqs.specs.Solved.{flag_at};
@@ -9,9 +9,8 @@ use crate::agenda::{Agenda, want_answers};
 use crate::begin::{first_agenda, fixed_values};
 use crate::evaluate::{Page, evaluate};
 use crate::join::join_all;
-use crate::record::record_reads;
+use crate::record::{Reads, no_reads, record_reads};
 use fp_eqs::{Counted, System};
-use fp_links::Links;
 use std::alloc::{AllocError, Global};
 use std::sync::ledger::Ledger;
 
@@ -23,7 +22,7 @@ pub struct Work {
     /// What is wanted, started and due.
     pub agenda: Agenda,
     /// Which places each task read when it was evaluated last.
-    pub reads: Links,
+    pub reads: Reads,
     /// The lists of an evaluation.
     pub page: Page,
 }
@@ -38,8 +37,7 @@ pub fn open<S: System, L: Ledger>(
 {
     let values = fixed_values(alloc, system)?;
     let agenda = first_agenda(alloc, system)?;
-    let mut reads = Links::new(alloc);
-    reads.reserve(system.tasks(), system.places(), 0)?;
+    let reads = no_reads(alloc, system)?;
     let page = Page::new(alloc, system.places())?;
     Ok(Work {
         values,
@@ -59,6 +57,7 @@ fn commit<S: System, L: Ledger>(
     requires task { task < (S.equations system.now.system).tasks }
     requires work { IsWork (S.equations system.now.system) work.old }
     requires once { IsTrue (distinct work.old.page.questions.answers.items) }
+    requires few { length work.old.page.questions.answers.items < 2 ^ 32 }
     requires asks { let k = (S.equations system.now.system).task task in
         (p : ℕ) → asked work.old.page.questions.answers.items p ≡ k.uses (slice_index work.old.values.items) p }
     requires gives { let k = (S.equations system.now.system).task task in
@@ -67,15 +66,13 @@ fn commit<S: System, L: Ledger>(
     ensures taken { OnOk result (HasTaken (S.equations system.now.system) task work.old work.new) }
 {
     let answers = work.page.questions.answers.as_slice();
-    work.reads
-        .reserve(system.tasks(), system.places(), answers.len() as u32)?;
-    record_reads(&mut work.reads, task, answers);
+    record_reads(&mut work.reads, task, answers)?;
     want_answers(system, &mut work.agenda, answers)?;
     let given = work.page.given.list();
     join_all(
         system,
         &mut work.values,
-        &work.reads,
+        &work.reads.links,
         &mut work.agenda.due,
         given,
     )?;
