@@ -1,9 +1,10 @@
 //! Cells and their places, and the texts of their values.
+ghost use Rattle.std.specs.Prelude.{◌<◌, IfOk, length};
+
 use super::table::check;
 use fp_cells::{Cells, Entity, KindId, count_places, law_places, law_texts, value_text};
 use fp_model::SiteId;
 use std::alloc::{AllocError, Global};
-use std::process::Abort;
 use std::test::Fail;
 
 /// Adds a cell of few bits that is not there yet.
@@ -23,72 +24,74 @@ fn add_new(
 const SITE: Entity = Entity::Site(SiteId { method: 3, pc: 7 });
 
 /// Five cells: of one place, one, two, four and one.
-fn filled(rt: &impl Abort, alloc: Global) -> Result<Cells, Fail> {
+fn filled(alloc: Global) -> Result<Cells, AllocError> {
     let mut cells = Cells::new(alloc);
-    for (kind, entity, bits, first) in [
-        (KindId::Reach, Entity::Method(3), 1, 0),
-        (KindId::Leak, Entity::Method(3), 64, 1),
-        (KindId::Purity, Entity::Method(3), 65, 2),
-        (KindId::Callees, SITE, 200, 4),
-        (KindId::Leak, Entity::Method(4), 0, 8),
+    for (kind, entity, bits) in [
+        (KindId::Reach, Entity::Method(3), 1),
+        (KindId::Leak, Entity::Method(3), 64),
+        (KindId::Purity, Entity::Method(3), 65),
+        (KindId::Callees, SITE, 200),
+        (KindId::Leak, Entity::Method(4), 0),
     ] {
-        assert_eq!(rt; add_new(&mut cells, kind, entity, bits)?, Some(first));
+        add_new(&mut cells, kind, entity, bits)?;
     }
     Ok(cells)
 }
 
-#[test]
-fn a_place_leads_back_to_its_cell(rt: HostRuntime) -> Result<(), Fail> {
-    let cells = filled(&rt, rt.alloc())?;
-    for (place, cell) in [
-        (0, Some((KindId::Reach, Entity::Method(3)))),
-        (3, Some((KindId::Purity, Entity::Method(3)))),
-        (4, Some((KindId::Callees, SITE))),
-        (7, Some((KindId::Callees, SITE))),
-        (8, Some((KindId::Leak, Entity::Method(4)))),
-        (9, None),
-    ] {
-        assert_eq!(rt; cells.cell_of(place), cell, "at {place}");
+/// The cells of places, and those that begin there.
+fn places_text(alloc: Global, cells: &Cells, places: &[u32]) -> Result<String, AllocError> {
+    let mut texts = Vec::new(alloc);
+    for &place in places {
+        let cell = cells.cell_of(place);
+        let bits = cells.begins(place).map(|begun| begun.2);
+        texts.push(format!(in alloc; "{place} {cell:?} {bits:?}")?)?;
     }
-    Ok(())
+    texts.join(alloc, "; ")
 }
 
 #[test]
-fn a_cell_leads_to_its_first_place(rt: HostRuntime) -> Result<(), Fail> {
-    let cells = filled(&rt, rt.alloc())?;
-    for (place, cell) in [
-        (3, None),
-        (4, Some((KindId::Callees, SITE, 200))),
-        (8, Some((KindId::Leak, Entity::Method(4), 0))),
-        (9, None),
-    ] {
-        assert_eq!(rt; cells.begins(place), cell, "at {place}");
-    }
-    for (entity, place) in [(Entity::Method(3), Some(2)), (Entity::Class(3), None)] {
-        assert_eq!(rt; cells.find(KindId::Purity, entity), place, "{entity:?}");
-    }
+fn a_place_leads_back_to_its_cell(rt: HostRuntime) -> Result<(), Fail> {
+    let cells = filled(rt.alloc())?;
+    let text = places_text(rt.alloc(), &cells, &[0, 2, 3, 4, 7, 8, 9])?;
+    assert_eq!(rt;
+        text.as_str(),
+        "0 Some((Reach, Method(3))) Some(1); 2 Some((Purity, Method(3))) Some(65); 3 Some((Purity, Method(3))) None; 4 Some((Callees, Site(SiteId { method: 3, pc: 7 }))) Some(200); 7 Some((Callees, Site(SiteId { method: 3, pc: 7 }))) None; 8 Some((Leak, Method(4))) Some(0); 9 None None"
+    );
     Ok(())
+}
+
+/// What cells tell of themselves, of two cells by number, and of two by kind and entity.
+fn cells_text(alloc: Global, cells: &Cells) -> Result<String, AllocError> {
+    let found = cells.find(KindId::Purity, Entity::Method(3));
+    let absent = cells.find(KindId::Purity, Entity::Class(3));
+    format!(in alloc;
+        "{} {} {} {:?} {:?} {found:?} {absent:?}",
+        cells.len(),
+        cells.places(),
+        cells.is_empty(),
+        cells.cell(2),
+        cells.cell(5)
+    )
 }
 
 #[test]
 fn cells_stand_in_the_order_of_adding(rt: HostRuntime) -> Result<(), Fail> {
-    let cells = filled(&rt, rt.alloc())?;
+    let cells = filled(rt.alloc())?;
+    let text = cells_text(rt.alloc(), &cells)?;
     assert_eq!(rt;
-        (cells.len(), cells.places(), cells.is_empty()),
-        (5, 9, false)
+        text.as_str(),
+        "5 9 false Some((Purity, Method(3), 65)) None Some(2) None"
     );
-    for (number, cell) in [
-        (2, Some((KindId::Purity, Entity::Method(3), 65))),
-        (5, None),
-    ] {
-        assert_eq!(rt; cells.cell(number), cell, "{number}");
-    }
-    for (bits, places) in [(0, 1), (64, 1), (65, 2), (u32::MAX, 67_108_864)] {
-        assert_eq!(rt; count_places(bits), places, "{bits}");
-    }
     law_places();
     law_texts();
     Ok(())
+}
+
+#[test]
+fn a_word_holds_64_bits(rt: HostRuntime) {
+    for (bits, places) in [(0, 1), (64, 1), (65, 2), (u32::MAX, 67_108_864)] {
+        assert_eq!(rt; count_places(bits), places);
+    }
 }
 
 /// Kinds and words of a value in hexadecimal digits, and the text of that value.
@@ -180,12 +183,18 @@ fn one_text(kind: KindId, word: u64, to: &mut Vec<u8>) -> Result<(), AllocError>
     }
 }
 
-fn told(alloc: Global, input: &str) -> Result<String, Fail> {
-    let (kind, digits) = input.split_once(' ').ok_or("no kind")?;
+/// The words of hexadecimal digits with spaces between them.
+fn words_of(alloc: Global, digits: &str) -> Result<Vec<u64>, Fail> {
     let mut words = Vec::new(alloc);
     for word in digits.split(' ') {
         words.push(u64::from_str_radix(word, 16)?)?;
     }
+    Ok(words)
+}
+
+fn told(alloc: Global, input: &str) -> Result<String, Fail> {
+    let (kind, digits) = input.split_once(' ').ok_or("no kind")?;
+    let words = words_of(alloc, digits)?;
     let text = text_of(alloc, kind_of(kind), &words)?;
     Ok(String::from_utf8(text).ok().ok_or("no text")?)
 }
@@ -195,33 +204,49 @@ fn each_value_has_its_text(rt: HostRuntime) -> Result<(), Fail> {
     check(&rt, rt.alloc(), VALUES, told)
 }
 
-/// The text of a call site's value over so many targets, of which the first two have names of their own.
-fn callees_text(alloc: Global, words: &[u64], count: usize) -> Result<Vec<u8>, AllocError> {
+/// How many targets a call site has, and the words of its value in hexadecimal digits.
+const CALLEES: &str = "\
+    2 8;-\n\
+    2 2;B.f()V\n\
+    2 d;A.f()V,outside\n\
+    64 1 1;A.f()V,outside\n\
+    64 8000000000000000 2;C\n\
+    ";
+
+/// So many targets, of which the first two have names of their own.
+fn targets_of(alloc: Global, count: usize) -> Result<Vec<Vec<u8>>, AllocError>
+    ensures { IfOk result (λ targets. length targets.items < 1000) }
+{
     let mut targets = Vec::new(alloc);
     targets.push(Vec::from_slice(alloc, b"A.f()V")?)?;
     targets.push(Vec::from_slice(alloc, b"B.f()V")?)?;
     for _ in 2..count.min(100) {
         targets.push(Vec::from_slice(alloc, b"C")?)?;
     }
+    if targets.len() >= 1000 {
+        return Err(AllocError);
+    }
+    Ok(targets)
+}
+
+/// The text of a call site's value over so many targets.
+fn callees_text(alloc: Global, count: usize, words: &[u64]) -> Result<Vec<u8>, AllocError> {
+    let targets = targets_of(alloc, count)?;
     let mut text = Vec::new(alloc);
-    if targets.len() < 1000 && words.len() == targets.len() / 64 + 1 {
+    if words.len() == targets.len() / 64 + 1 {
         value_text(KindId::Callees, words, &targets, &mut text)?;
     }
     Ok(text)
 }
 
+fn told_callees(alloc: Global, input: &str) -> Result<String, Fail> {
+    let (count, digits) = input.split_once(' ').ok_or("no count")?;
+    let words = words_of(alloc, digits)?;
+    let text = callees_text(alloc, count.parse::<usize>()?, &words)?;
+    Ok(String::from_utf8(text).ok().ok_or("no text")?)
+}
+
 #[test]
 fn callees_are_named_up_to_the_outside(rt: HostRuntime) -> Result<(), Fail> {
-    for (words, count, wanted) in [
-        ([8, 0], 2, "-"),
-        ([2, 0], 2, "B.f()V"),
-        ([13, 0], 2, "A.f()V,outside"),
-        ([1, 1], 64, "A.f()V,outside"),
-        ([1 << 63, 2], 64, "C"),
-    ] {
-        let words = if count == 2 { &words[..1] } else { &words };
-        let text = callees_text(rt.alloc(), words, count)?;
-        assert_eq!(rt; text.as_slice(), wanted.as_bytes(), "{words:?}");
-    }
-    Ok(())
+    check(&rt, rt.alloc(), CALLEES, told_callees)
 }

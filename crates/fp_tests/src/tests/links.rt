@@ -34,13 +34,21 @@ fn link_new(links: &mut Links, task: u32, place: u32) -> Result<bool, AllocError
     Ok(true)
 }
 
-#[test]
-fn a_task_is_unlinked_and_another_stays(rt: HostRuntime) -> Result<(), Fail> {
-    let alloc = rt.alloc();
+/// Tasks 1 and 2 read place 0.
+fn two_readers(alloc: Global) -> Result<Links, AllocError>
+    ensures { IfOk result (λ links. (3 ≤ links.tasks) × (1 ≤ length links.rows)) }
+{
     let mut links = Links::new(alloc);
     link_new(&mut links, 1, 0)?;
     link_new(&mut links, 2, 0)?;
     links.reserve(3, 1, 0)?;
+    Ok(links)
+}
+
+#[test]
+fn a_task_is_unlinked_and_another_stays(rt: HostRuntime) -> Result<(), Fail> {
+    let alloc = rt.alloc();
+    let mut links = two_readers(alloc)?;
     assert_eq!(rt; readers(alloc, &links, 0)?.as_slice(), [2, 1].as_slice());
     links.unlink_task(1);
     assert_eq!(rt; readers(alloc, &links, 0)?.as_slice(), [2].as_slice());

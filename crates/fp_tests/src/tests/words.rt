@@ -1,6 +1,6 @@
 //! The words of the command line.
 use super::table::check;
-use fp_words::{Order, WordsFault, read_words};
+use fp_words::{Job, Order, WordsFault, read_words};
 use std::alloc::{AllocError, Global};
 use std::test::Fail;
 
@@ -62,28 +62,28 @@ const CASES: &str = "\
     generate|--seed|0|--classes|1|--workers|1;usage\n\
     ";
 
-fn put_each(line: &mut String, texts: &[String]) -> Result<(), AllocError> {
+/// Each text in parentheses.
+fn items_text(alloc: Global, texts: &[String]) -> Result<String, AllocError> {
+    let mut line = String::new(alloc);
     for text in texts {
         line.push('(')?;
         line.push_str(text)?;
         line.push(')')?;
     }
-    Ok(())
+    Ok(line)
+}
+
+fn job_text(alloc: Global, job: &Job) -> Result<String, AllocError> {
+    let roots = items_text(alloc, job.roots.as_slice())?;
+    let analyses = items_text(alloc, job.analyses.as_slice())?;
+    let show = items_text(alloc, job.show.as_slice())?;
+    format!(in alloc; "{}/{roots}/{analyses}/{show}", job.dir)
 }
 
 /// What words ask for, as it stands in the table.
 fn order_text(alloc: Global, words: &[String]) -> Result<String, AllocError> {
     match read_words(alloc, words) {
-        Ok(Order::Run(job)) => {
-            let mut line = String::from_str(alloc, &job.dir)?;
-            line.push('/')?;
-            put_each(&mut line, job.roots.as_slice())?;
-            line.push('/')?;
-            put_each(&mut line, job.analyses.as_slice())?;
-            line.push('/')?;
-            put_each(&mut line, job.show.as_slice())?;
-            Ok(line)
-        }
+        Ok(Order::Run(job)) => job_text(alloc, &job),
         Ok(Order::Generate { .. }) => String::from_str(alloc, "generate"),
         Err(WordsFault::Usage) => String::from_str(alloc, "usage"),
         Err(WordsFault::Memory) => Err(AllocError),
