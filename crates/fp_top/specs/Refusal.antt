@@ -1,14 +1,21 @@
 -- Refusals of the code, and what they say of the outcome.
-use Rattle.std.specs.Prelude.{◌≡◌, ℕ, List, map, Option, Some, None, string_bytes}
+use Rattle.std.specs.Prelude.{◌≡◌, ℕ, List, map, Option, Some, None, Result, string_bytes}
 use Rattle.fp_base.specs.Calls.{Call}
+use Rattle.fp_model.specs.ClassSet.{SetView}
+use Rattle.fp_load.specs.declared.fault.LoadFault.{LoadFault}
+use Rattle.fp_load.specs.Causes as causes
 use Rattle.fp_load.specs.Causes.{IsBlamed}
-use Rattle.fp_load.specs.Faults.{refusal_told}
+use Rattle.fp_load.specs.Faults.{Tells, refusal_told}
+use Rattle.fp_load.specs.Load.{LoadRefusal}
+use Rattle.fp_system.specs.declared.fault.SystemFault.{SystemFault}
+use Rattle.fp_system.specs.Faults.{TellsSystemRefusal}
+use Rattle.fp_system.specs.Java.{SystemRefusal}
 use Rattle.fp_words.specs.Words.{RunAsked}
 use Rattle.fp_top.specs.declared.status.Status.{Status}
 use Rattle.fp_top.specs.declared.status.Status.TheVariants as status
 use Rattle.fp_top.specs.declared.refusal.Refusal.{Refusal}
 use Rattle.fp_top.specs.declared.refusal.Refusal.TheVariants as refusal
-use Rattle.fp_top.specs.Outcome.{Outcome, usage_text, fault_lines, duplicate_text, cycle_text, selection_text, limit_text, read_text, memory_text}
+use Rattle.fp_top.specs.Outcome.{Outcome, outcome_by, outcome_of_load, usage_text, fault_lines, duplicate_text, cycle_text, selection_text, limit_text, read_text, memory_text}
 use Rattle.fp_top.specs.Outcome.Outcome.{Refuse}
 use Rattle.fp_top.specs.Words.{directory_of}
 
@@ -76,3 +83,14 @@ abbrev pub IsUsage : Option RunAsked → Refusal → Type 0
 IsUsage asked refusal.Usage = asked ≡ None
 IsUsage asked refusal.Memory = Unit {0}
 IsUsage asked _ = ⊥
+
+-- a fault of loading, as a refusal
+pub record IsOfLoad (why : LoadFault) (refused : Refusal) : Type 0 where
+  pub says : (asked : RunAsked) (loaded : Result SetView LoadRefusal) → Tells loaded why → Says (outcome_of_load asked loaded) refused
+  pub worded : IsNoUsage refused
+  pub blames : (dir : List ℕ) (listed : List (List ℕ)) (before now : List Call) → causes.Blames dir listed before now why → Blames dir listed before now refused
+
+-- why there is no system, as a refusal
+pub record IsOfSystem (why : SystemFault) (refused : Refusal) : Type 0 where
+  pub says : (set : SetView) (asked : RunAsked) (told : Option SystemRefusal) → TellsSystemRefusal told why → Says (outcome_by set asked told) refused
+  pub own : IsOwn refused

@@ -1,6 +1,6 @@
 -- What the top call promises of its status and of what it leaves.
 use Rattle.std.specs.Prelude.{◌≡◌, ℕ, Bool, List, [], Option, Some, IsTrue}
-use Rattle.fp_base.specs.Files.{File}
+use Rattle.fp_base.specs.Files.{File, bytes_at, class_paths}
 use Rattle.fp_base.specs.Calls.{Call}
 use Rattle.fp_base.specs.Faults.{AppendsPart}
 use Rattle.fp_top.specs.declared.status.Status.{Status}
@@ -38,3 +38,9 @@ pub record IsReadFault (words : List (List ℕ)) (listed : List (List ℕ)) (bef
   pub worded : directory_of words ≡ Some dir
   pub blamed : IsBlamed dir listed before now path
   pub named : AppendsPart err err' (read_text path)
+
+-- a directory tells what it told: whether it tells its files, the class files below each path, and the bytes of each file
+pub record TellsTheSame (tells : Bool) (files : List File) (tells' : Bool) (files' : List File) : Type 0 where
+  pub telling : tells' ≡ tells
+  pub listing : (dir : List ℕ) → class_paths files' dir ≡ class_paths files dir
+  pub contents : (path : List ℕ) → bytes_at files' path ≡ bytes_at files path

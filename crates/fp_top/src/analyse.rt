@@ -1,12 +1,13 @@
-ghost use Rattle.std.specs.Prelude.{◌≡◌, ◌≢◌, ◌⊎◌, ◌↔◌, ℕ, List, Some, None, IsTrue, IsNone};
+ghost use Rattle.std.specs.Prelude.{◌≡◌, ◌≢◌, ◌⊎◌, ◌↔◌, ◌<◌, ℕ, List, length, Some, None, IsTrue, IsNone};
 ghost use Rattle.std.specs.Io.KnownBytes.{append_known};
 ghost use Rattle.fp_base.specs.Files.{texts};
 ghost use Rattle.fp_base.specs.Calls.{Grows};
 ghost use Rattle.fp_base.specs.Counters.{Rose};
 ghost use Rattle.fp_base.specs.Faults.{AppendsPart};
+ghost use Rattle.fp_load.specs.Load.{most_files};
 ghost use Rattle.fp_top.specs.Words as spec;
 ghost use Rattle.fp_top.specs.Outcome.{verdict, output};
-ghost use Rattle.fp_top.specs.Top.{Fits, IsText, IsReadFault};
+ghost use Rattle.fp_top.specs.Top.{Fits, IsText, IsReadFault, TellsTheSame};
 
 use crate::decide::decide;
 use crate::refusal::status_of;
@@ -47,7 +48,11 @@ pub fn analyse_one<D: ClassDir, S: Sink>(
     ensures silent { result ≡ Status.Done → err.new ≡ err.old }
     ensures message { (text : List ℕ) × IsText (D.tells dir.old) (texts words.now) (D.files dir.old) result text × AppendsPart (S.told err.old) (S.told err.new) text }
     ensures files { D.files dir.new ≡ D.files dir.old }
+    ensures kept { TellsTheSame (D.tells dir.old) (D.files dir.old) (D.tells dir.new) (D.files dir.new) }
     ensures grows { Grows (D.failed dir.old) (D.failed dir.new) }
+
+    // Of too many files none is read.
+    ensures unread { most_files < length (D.listed dir.new) → D.readings dir.new ≡ D.readings dir.old }
 {
     match decide(alloc, words, dir) {
         Ok(run) => match put_report(alloc, run, out) {

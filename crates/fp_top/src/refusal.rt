@@ -2,8 +2,9 @@ ghost use Rattle.std.specs.Prelude.{◌≡◌, IfOk, string_bytes};
 ghost use Rattle.fp_top.specs.Refusal as spec;
 
 use crate::status::Status;
-use fp_load::FileRefusal;
-use fp_model::LimitName;
+use fp_load::{FileRefusal, LoadFault};
+use fp_model::{LimitName, SetFault};
+use fp_system::SystemFault;
 use sqlite_items::Items;
 use std::alloc::{AllocError, Global};
 
@@ -26,6 +27,49 @@ pub enum Refusal {
     Limit(LimitName, u64),
     /// Memory ran out.
     Memory,
+}
+
+impl From<AllocError> for Refusal {
+    ghost use Rattle.fp_top.specs.declared.refusal.Refusal.TheVariants.{Memory};
+
+    ghost from_gives = { λ _ refusal. refusal ≡ Memory };
+
+    fn from(_: AllocError) -> Refusal {
+        Refusal::Memory
+    }
+}
+
+impl From<LoadFault> for Refusal {
+    ghost use Rattle.fp_top.specs.Refusal.{IsOfLoad};
+
+    ghost from_gives = { IsOfLoad };
+
+    fn from(fault: LoadFault) -> Refusal {
+        match fault {
+            LoadFault::Read(path) => Refusal::Read(path),
+            LoadFault::Limit(name, most) => Refusal::Limit(name, most),
+            LoadFault::Refused(files) => Refusal::Files(files),
+            LoadFault::Set(SetFault::Duplicate(name)) => Refusal::Duplicate(name),
+            LoadFault::Set(SetFault::SuperCycle(name)) => Refusal::Cycle(name),
+            LoadFault::Set(SetFault::Memory) | LoadFault::Memory => Refusal::Memory,
+        }
+    }
+}
+
+impl From<SystemFault> for Refusal {
+    ghost use Rattle.fp_top.specs.Refusal.{IsOfSystem};
+
+    ghost from_gives = { IsOfSystem };
+
+    fn from(fault: SystemFault) -> Refusal {
+        match fault {
+            SystemFault::Analysis(name) => Refusal::Selection(name),
+            SystemFault::Root(root) => Refusal::Selection(root),
+            SystemFault::Show(item) => Refusal::Selection(item),
+            SystemFault::Limit(name, most) => Refusal::Limit(name, most),
+            SystemFault::Memory => Refusal::Memory,
+        }
+    }
 }
 
 /// The status of a refusal.

@@ -1,11 +1,6 @@
-ghost use Rattle.std.specs.Prelude.{◌≡◌, false, Option, IfOk, IfErr};
-ghost use Rattle.fp_base.specs.Files.{texts};
-ghost use Rattle.fp_model.specs.ClassSet.{SetView};
-ghost use Rattle.fp_system.specs.Faults.{TellsSystemRefusal};
-ghost use Rattle.fp_system.specs.Java.{SystemRefusal};
+ghost use Rattle.std.specs.Prelude.{◌≡◌, false, IfOk, IfErr};
 ghost use Rattle.fp_words.specs.Asked.{run_of_job};
-ghost use Rattle.fp_words.specs.Words.{RunAsked};
-ghost use Rattle.fp_top.specs.Outcome.{outcome_by, outcome_of_sound};
+ghost use Rattle.fp_top.specs.Outcome.{outcome_of_sound};
 ghost use Rattle.fp_top.specs.Outcome.Outcome.{Report};
 ghost use Rattle.fp_top.specs.Refusal.{Says, IsOwn};
 ghost use Rattle.fp_top.specs.Runs.{lines_of, IsReady};
@@ -13,7 +8,7 @@ ghost use Rattle.fp_top.specs.Runs.{lines_of, IsReady};
 use crate::refusal::Refusal;
 use fp_eqs::{Solved, rounds};
 use fp_facts::Loaded;
-use fp_system::{JavaSystem, SystemFault};
+use fp_system::JavaSystem;
 use fp_words::Job;
 use std::alloc::Global;
 
@@ -34,31 +29,12 @@ pub fn solve(alloc: Global, loaded: Loaded, job: Job) -> Result<Run, Refusal>
     ensures refusal { IfErr result (λ refusal. Says (outcome_of_sound loaded.set (run_of_job job)) refusal) }
     ensures own { IfErr result IsOwn }
 {
-    let system = match JavaSystem::build(alloc, &loaded, &job) {
-        Ok(system) => system,
-        Err(fault) => return Err(refusal_of_system(fault)),
-    };
-    match rounds(alloc, &system) {
-        Ok(solved) => Ok(Run {
-            loaded,
-            system,
-            solved,
-            job,
-        }),
-        Err(_) => Err(Refusal::Memory),
-    }
-}
-
-/// Why there is no system, as a refusal.
-fn refusal_of_system(fault: SystemFault) -> Refusal
-    ensures says { (set : SetView) (asked : RunAsked) (why : Option SystemRefusal) → TellsSystemRefusal why fault → Says (outcome_by set asked why) result }
-    ensures own { IsOwn result }
-{
-    match fault {
-        SystemFault::Analysis(name) => Refusal::Selection(name),
-        SystemFault::Root(root) => Refusal::Selection(root),
-        SystemFault::Show(item) => Refusal::Selection(item),
-        SystemFault::Limit(name, most) => Refusal::Limit(name, most),
-        SystemFault::Memory => Refusal::Memory,
-    }
+    let system = JavaSystem::build(alloc, &loaded, &job)?;
+    let solved = rounds(alloc, &system)?;
+    Ok(Run {
+        loaded,
+        system,
+        solved,
+        job,
+    })
 }

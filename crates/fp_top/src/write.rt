@@ -64,8 +64,6 @@ fn fault_lines(alloc: Global, refused: &[(String, FileRefusal)]) -> Result<Strin
 fn fault_line(alloc: Global, path: &str, refusal: FileRefusal) -> Result<String, AllocError>
     ensures { IfOk result (λ text. string_bytes text ≡ outcome.fault_line path.now refusal) }
 {
-    match file_refusal_text(alloc, refusal) {
-        Ok(why) => format!(in alloc; "refused: {path}: {why}\n"),
-        Err(error) => Err(error),
-    }
+    let why = file_refusal_text(alloc, refusal)?;
+    format!(in alloc; "refused: {path}: {why}\n")
 }
