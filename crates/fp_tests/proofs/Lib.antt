@@ -1,1 +1,2 @@
 mod MethodLemmas
+pub mod RisingLemmas

@@ -17,6 +17,7 @@ mod model;
 mod ops;
 mod origin;
 mod pool;
+mod solo;
 mod system;
 mod table;
 mod top;

@@ -7,7 +7,7 @@ use std::test::Fail;
 
 /// Place 0 is made and shown. A lazy task would copy it to place 1, which nobody wants.
 #[derive(Drop)]
-struct Idle;
+pub struct Idle;
 
 impl System for Idle {
     ghost use Rattle.fp_eqs.specs.Idle.{idle, idle-laws};

@@ -1,0 +1,4 @@
+use Rattle.fp_tests.proofs.tests.solo.solve.Given as goal
+
+abbrev pub ghosts-solve_counted : goal.ghosts-solve_counted
+ghosts-solve_counted g a = record { name = a.blank.name; parts = a.blank.parts }
