@@ -1,11 +1,12 @@
 -- The hierarchy of a set of classes: superclasses, superinterfaces, and which names a class goes by (JVMS SE 21 sections 4.1 and 5.4.3).
-use Rattle.std.specs.Prelude.{◌≡◌, ℕ, IsTrue, zero, suc, ◌+◌, ◌==◌, Bool, not, ◌&&◌, ◌||◌, List, [], ◌∷◌, ◌++◌, length, codes, fold, bit_and, slice_get, slice_index, is_none, Option, Some, None, option_and_then, if◌then◌else◌}
+use Rattle.std.specs.Prelude.{◌≡◌, ℕ, IsTrue, zero, suc, ◌+◌, ◌==◌, Bool, not, ◌&&◌, ◌||◌, List, [], ◌∷◌, ◌++◌, length, codes, fold, slice_get, slice_index, is_none, Option, Some, None, option_and_then, if◌then◌else◌}
 use Rattle.std.specs.List.{list_any, flat_map}
 use Rattle.std.specs.Option.{option_map_or, option_to_list}
 use Rattle.std.specs.Str.{bytes_eq}
 use Rattle.fp_model.specs.declared.class.Class.{Class}
 use Rattle.fp_model.specs.ClassSet.{SetView, class_named}
 use Rattle.fp_model.specs.Descriptor.{text_of}
+use Rattle.fp_model.specs.Flags as access
 
 -- ---- classes by their names
 
@@ -25,10 +26,10 @@ is_object names name = bytes_eq (text_of names name) (codes "java/lang/Object")
 
 -- access flags: ACC_INTERFACE, and neither it nor ACC_ABSTRACT (table 4.1-B)
 abbrev pub is_interface : Class → Bool
-is_interface c = not (bit_and c.flags 0x0200 == 0)
+is_interface c = access.is_interface c.flags
 
 abbrev pub is_concrete : Class → Bool
-is_concrete c = bit_and c.flags 0x0600 == 0
+is_concrete c = access.is_concrete c.flags
 
 -- ---- ancestors
 

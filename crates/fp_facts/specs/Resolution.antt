@@ -1,10 +1,11 @@
 -- Which declaration a reference means (JVMS SE 21 sections 5.4.3.2 to 5.4.3.4), by a name and a descriptor.
-use Rattle.std.specs.Prelude.{ℕ, ◌+◌, ◌==◌, nat_lt, Bool, false, not, ◌&&◌, List, [], ◌∷◌, filter, length, position, bit_and, is_some, slice_get, Option, None, option_map, option_and_then}
+use Rattle.std.specs.Prelude.{ℕ, ◌+◌, ◌==◌, nat_lt, Bool, false, not, ◌&&◌, List, [], ◌∷◌, filter, length, position, is_some, slice_get, Option, None, option_map, option_and_then}
 use Rattle.std.specs.List.{flat_map, range_with_len}
 use Rattle.std.specs.Option.{option_map_or, option_or, option_to_list}
 use Rattle.fp_model.specs.declared.class.Class.{Class}
 use Rattle.fp_model.specs.declared.class.Method.{Method}
 use Rattle.fp_model.specs.ClassSet.{first_field_of, first_method_of, methods_of}
+use Rattle.fp_model.specs.Flags as access
 use Rattle.fp_model.specs.Flags.{is_static}
 use Rattle.fp_facts.specs.Hierarchy.{ancestors, class_and_above, class_of_name, classes_among, is_interface, superinterfaces_at}
 
@@ -12,10 +13,10 @@ use Rattle.fp_facts.specs.Hierarchy.{ancestors, class_and_above, class_of_name, 
 
 -- ACC_PRIVATE and ACC_NATIVE (table 4.6-A)
 abbrev pub is_private : Method → Bool
-is_private m = not (bit_and m.flags 0x0002 == 0)
+is_private m = access.is_private m.flags
 
 abbrev pub is_native : Method → Bool
-is_native m = not (bit_and m.flags 0x0100 == 0)
+is_native m = access.is_native m.flags
 
 abbrev pub has_code : Method → Bool
 has_code m = is_some m.code

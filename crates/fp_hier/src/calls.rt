@@ -16,8 +16,8 @@ use crate::resolution::resolve_method;
 use crate::selection::{Receiver, fixed_target, selected};
 use crate::signature::Signature;
 use crate::targets::Targets;
-use crate::texts::{is_object, name_text};
-use fp_model::{Class, ClassId, ClassSet, Instr};
+use crate::texts::is_object;
+use fp_model::{Class, ClassId, ClassSet, Instr, name_text};
 use sqlite_items::Items;
 use std::alloc::{AllocError, Global};
 

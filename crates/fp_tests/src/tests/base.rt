@@ -36,10 +36,17 @@ fn names_text(alloc: Global, names: &Names) -> Result<String, AllocError> {
 fn a_name_keeps_its_number(rt: HostRuntime) -> Result<(), Fail> {
     let mut names = Names::new(rt.alloc());
     assert!(rt; names.is_empty());
-    let numbers = numbers_text(rt.alloc(), &mut names, "java/lang/Object main java/lang/Object")?;
+    let numbers = numbers_text(
+        rt.alloc(),
+        &mut names,
+        "java/lang/Object main java/lang/Object",
+    )?;
     assert_eq!(rt; numbers.as_str(), "Ok(0) Ok(1) Ok(0)");
     let text = names_text(rt.alloc(), &names)?;
-    assert_eq!(rt; text.as_str(), "2 Some(1) None Some([109, 97, 105, 110]) None");
+    assert_eq!(rt;
+        text.as_str(),
+        "2 Some(1) None Some([109, 97, 105, 110]) None"
+    );
     Ok(())
 }
 
@@ -113,11 +120,7 @@ const FILES: &str = "\
     dd/C.class=d\n\
     ";
 
-fn add_file(
-    alloc: Global,
-    files: &mut IndexMap<String, Vec<u8>>,
-    line: &str,
-) -> Result<(), Fail> {
+fn add_file(alloc: Global, files: &mut IndexMap<String, Vec<u8>>, line: &str) -> Result<(), Fail> {
     let (path, text) = line.split_once('=').ok_or("no text")?;
     let bytes = Vec::from_slice(alloc, text.as_bytes())?;
     files.insert(String::from_str(alloc, path)?, bytes)?;
@@ -154,7 +157,10 @@ fn listings_text(alloc: Global, dir: &mut MemDir, paths: &str) -> Result<String,
 fn lists_the_class_files_below(rt: HostRuntime) -> Result<(), Fail> {
     let mut dir = make_dir(rt.alloc(), vec![in rt.alloc(); 1]?)?;
     let text = listings_text(rt.alloc(), &mut dir, "d d d/e f")?;
-    assert_eq!(rt; text.as_str(), "d/A.class d/e/B.class; Failed; d/e/B.class; ");
+    assert_eq!(rt;
+        text.as_str(),
+        "d/A.class d/e/B.class; Failed; d/e/B.class; "
+    );
     Ok(())
 }
 
@@ -203,7 +209,10 @@ fn read_length(alloc: Global, dir: &mut MemDir, path: &str) -> Option<usize> {
 #[test]
 fn reads_the_first_bytes_of_the_last_file_of_a_path(rt: HostRuntime) -> Result<(), Fail> {
     let mut dir = long_dir(rt.alloc())?;
-    assert_eq!(rt; read_length(rt.alloc(), &mut dir, "d/A.class"), Some(4_194_305));
+    assert_eq!(rt;
+        read_length(rt.alloc(), &mut dir, "d/A.class"),
+        Some(4_194_305)
+    );
     assert_eq!(rt; read_length(rt.alloc(), &mut dir, "d/B.class"), None);
     Ok(())
 }

@@ -58,7 +58,9 @@ fn a_chain_of_two_thousand_classes_is_reported(rt: HostRuntime) -> Result<(), Fa
     let words = "--analyses declared --show declared --workers 1 d";
     let text = run_text(rt.alloc(), files, words)?;
     assert!(rt;
-        text.starts_with("Done\ndeclared Link0 final\ndeclared Link1 final\ndeclared Link10 final\n")
+        text.starts_with(
+            "Done\ndeclared Link0 final\ndeclared Link1 final\ndeclared Link10 final\n"
+        )
     );
     assert!(rt; text.ends_with("declared Link999 final\ncells 2000\n"));
     Ok(())
@@ -69,7 +71,10 @@ fn the_last_of_a_chain_is_reported(rt: HostRuntime) -> Result<(), Fail> {
     let files = chain(rt.alloc(), 2_000)?;
     let words = "--analyses declared --show declared=Link1999 --workers 1 d";
     let text = run_text(rt.alloc(), files, words)?;
-    assert_eq!(rt; text.as_str(), "Done\ndeclared Link1999 final\ncells 2000\n");
+    assert_eq!(rt;
+        text.as_str(),
+        "Done\ndeclared Link1999 final\ncells 2000\n"
+    );
     Ok(())
 }
 
