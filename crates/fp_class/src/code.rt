@@ -71,15 +71,13 @@ fn guard(
     ensures names { Taken result names.old names.new (row_texts entries.now row) }
     ensures memo { OnOk result (IsMemo names.new entries.now memo.new) }
 {
-    match parent_name(alloc, entries, row.class, names, memo) {
-        Ok(class) => Ok(Guard {
-            start: row.start,
-            end: row.end,
-            handler: row.handler,
-            class,
-        }),
-        Err(fault) => Err(fault),
-    }
+    let class = parent_name(alloc, entries, row.class, names, memo)?;
+    Ok(Guard {
+        start: row.start,
+        end: row.end,
+        handler: row.handler,
+        class,
+    })
 }
 
 /// The rows of an exception table.

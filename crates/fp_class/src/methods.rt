@@ -49,13 +49,11 @@ fn code(
     ensures memo { OnOk result (IsMemo names.new pool.now.entries memo.new) }
     ensures rows { OnOk result (IsBootMemo names.new pool.now.entries boots.now boot_memo.new) }
 {
-    match find_code(attributes) {
-        Some(raw) => match code_with(alloc, raw, pool, boots, names, memo, boot_memo) {
-            Ok(code) => Ok(Some(code)),
-            Err(fault) => Err(fault),
-        },
-        None => Ok(None),
-    }
+    let Some(raw) = find_code(attributes) else {
+        return Ok(None);
+    };
+    let code = code_with(alloc, raw, pool, boots, names, memo, boot_memo)?;
+    Ok(Some(code))
 }
 
 /// A method in numbers of the table.

@@ -40,10 +40,8 @@ pub fn parent_name(
     if look_up::class_name(entries, index).is_none() {
         return Ok(None);
     }
-    match class_name(alloc, entries, index, names, memo) {
-        Ok(name) => Ok(Some(name)),
-        Err(fault) => Err(fault),
-    }
+    let name = class_name(alloc, entries, index, names, memo)?;
+    Ok(Some(name))
 }
 
 /// The numbers of the names of classes.
@@ -182,8 +180,6 @@ pub fn to_class(alloc: Global, raw: &Raw, names: &mut Names) -> Result<Option<Cl
     if is_module(raw.flags) {
         return Ok(None);
     }
-    match class(alloc, raw, names) {
-        Ok(class) => Ok(Some(class)),
-        Err(fault) => Err(fault),
-    }
+    let class = class(alloc, raw, names)?;
+    Ok(Some(class))
 }

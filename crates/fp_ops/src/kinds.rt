@@ -63,13 +63,9 @@ pub fn kind_at(
     if let Some(kind) = known_kind(memo, index) {
         return Ok(kind);
     }
-    match read_kind_at(alloc, entries, index, names) {
-        Ok(kind) => {
-            keep_kind(memo, index, kind);
-            Ok(kind)
-        }
-        Err(fault) => Err(fault),
-    }
+    let kind = read_kind_at(alloc, entries, index, names)?;
+    keep_kind(memo, index, kind);
+    Ok(kind)
 }
 
 /// The kind of the elements of the array class whose name stands at an index, whatever is known of it.
@@ -106,13 +102,9 @@ pub fn element_at(
     if let Some(kind) = known_element(memo, index) {
         return Ok(kind);
     }
-    match read_element_at(alloc, entries, index, names) {
-        Ok(kind) => {
-            keep_element(memo, index, kind);
-            Ok(kind)
-        }
-        Err(fault) => Err(fault),
-    }
+    let kind = read_element_at(alloc, entries, index, names)?;
+    keep_element(memo, index, kind);
+    Ok(kind)
 }
 
 /// The kinds that a method descriptor says.
@@ -167,14 +159,12 @@ pub fn kinds_at(
             Err(_) => Err(NameFault::Memory),
         };
     }
-    match read_kinds_at(alloc, entries, index, names) {
-        Ok(kinds) => match Shared::pair(alloc, kinds) {
-            Ok((kept, kinds)) => {
-                keep_descr(memo, index, kept);
-                Ok(kinds)
-            }
-            Err(_) => Err(NameFault::Memory),
-        },
-        Err(fault) => Err(fault),
+    let kinds = read_kinds_at(alloc, entries, index, names)?;
+    match Shared::pair(alloc, kinds) {
+        Ok((kept, kinds)) => {
+            keep_descr(memo, index, kept);
+            Ok(kinds)
+        }
+        Err(_) => Err(NameFault::Memory),
     }
 }

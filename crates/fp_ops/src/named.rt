@@ -206,10 +206,8 @@ fn class_at(
     ensures names { Interned result names.old names.new (texts_by (λ text. text ∷ []) (class_name_at entries.now index)) }
     ensures memo { OnOk result (IsMemo names.new entries.now memo.new) }
 {
-    match class_name(alloc, entries, index, names, memo) {
-        Ok(class) => Ok(class_instr(op, class)),
-        Err(fault) => Err(fault),
-    }
+    let class = class_name(alloc, entries, index, names, memo)?;
+    Ok(class_instr(op, class))
 }
 
 /// Whether the text at an index is the name of an array class.
@@ -239,10 +237,8 @@ fn class_kind(
     if is_array(entries, index) {
         return kind_at(alloc, entries, index, names, memo);
     }
-    match text(alloc, entries, index, names, memo) {
-        Ok(name) => Ok(Kind::Class(name)),
-        Err(fault) => Err(fault),
-    }
+    let name = text(alloc, entries, index, names, memo)?;
+    Ok(Kind::Class(name))
 }
 
 /// An array of one dimension, by the index of the name of its elements' class.
@@ -259,10 +255,8 @@ fn array_instr(
     ensures names { Interned result names.old names.new (class_kind_names (unwrap_or (text_at entries.now index) [])) }
     ensures memo { OnOk result (IsMemo names.new entries.now memo.new) }
 {
-    match class_kind(alloc, entries, index, names, memo) {
-        Ok(element) => Ok(Instr::NewArray { dims: 1, element }),
-        Err(fault) => Err(fault),
-    }
+    let element = class_kind(alloc, entries, index, names, memo)?;
+    Ok(Instr::NewArray { dims: 1, element })
 }
 
 /// An array of one dimension, by the index of its elements' class.
@@ -300,10 +294,8 @@ fn multi_array_instr(
     ensures names { Interned result names.old names.new (kind_names (drop 1 (unwrap_or (text_at entries.now index) []))) }
     ensures memo { OnOk result (IsMemo names.new entries.now memo.new) }
 {
-    match element_at(alloc, entries, index, names, memo) {
-        Ok(element) => Ok(Instr::NewArray { dims, element }),
-        Err(fault) => Err(fault),
-    }
+    let element = element_at(alloc, entries, index, names, memo)?;
+    Ok(Instr::NewArray { dims, element })
 }
 
 /// An array of so many dimensions, by the index of its class.

@@ -46,13 +46,9 @@ pub fn text(
     if let Some(number) = known_number(memo, index) {
         return Ok(number);
     }
-    match intern_text(alloc, entries, index, names) {
-        Ok(number) => {
-            keep_number(memo, index, number);
-            Ok(number)
-        }
-        Err(fault) => Err(fault),
-    }
+    let number = intern_text(alloc, entries, index, names)?;
+    keep_number(memo, index, number);
+    Ok(number)
 }
 
 /// The number of the name of the class at an index.

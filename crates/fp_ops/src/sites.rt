@@ -73,15 +73,13 @@ fn boot_ref(
     ensures memo { OnOk result (IsMemo names.new entries.now memo.new) }
 {
     let kind = handle.kind;
-    match number_all(alloc, entries, handle.member, names, memo) {
-        Ok(numbers) => Ok(BootRef {
-            kind,
-            class: numbers.class,
-            name: numbers.name,
-            descr: numbers.descr,
-        }),
-        Err(fault) => Err(fault),
-    }
+    let numbers = number_all(alloc, entries, handle.member, names, memo)?;
+    Ok(BootRef {
+        kind,
+        class: numbers.class,
+        name: numbers.name,
+        descr: numbers.descr,
+    })
 }
 
 /// The argument of a method type, by the index of its descriptor.
@@ -98,10 +96,8 @@ fn type_arg(
     ensures names { Taken result names.old names.new (texts_by descr_names (text_at entries.now descr)) }
     ensures memo { OnOk result (IsMemo names.new entries.now memo.new) }
 {
-    match kinds_at(alloc, entries, descr, names, memo) {
-        Ok(kinds) => Ok(BootArg::Sig(kinds)),
-        Err(fault) => Err(fault),
-    }
+    let kinds = kinds_at(alloc, entries, descr, names, memo)?;
+    Ok(BootArg::Sig(kinds))
 }
 
 /// The argument of a method handle.
@@ -118,10 +114,8 @@ fn handle_arg(
     ensures names { Taken result names.old names.new (handle_texts (handle_of entries.now handle.kind handle.member.class handle.member.name handle.member.descr)) }
     ensures memo { OnOk result (IsMemo names.new entries.now memo.new) }
 {
-    match boot_ref(alloc, entries, handle, names, memo) {
-        Ok(reference) => Ok(BootArg::Ref(reference)),
-        Err(fault) => Err(fault),
-    }
+    let reference = boot_ref(alloc, entries, handle, names, memo)?;
+    Ok(BootArg::Ref(reference))
 }
 
 /// The argument of a method handle, by its kind and the index of its member.
@@ -229,15 +223,13 @@ fn shared_args(
             Err(_) => Err(NameFault::Memory),
         };
     }
-    match boot_args(alloc, entries, row_args(boots, row), names, memo) {
-        Ok(args) => match Shared::pair(alloc, args) {
-            Ok((kept, args)) => {
-                keep_args(boot_memo, row, kept);
-                Ok(args)
-            }
-            Err(_) => Err(NameFault::Memory),
-        },
-        Err(fault) => Err(fault),
+    let args = boot_args(alloc, entries, row_args(boots, row), names, memo)?;
+    match Shared::pair(alloc, args) {
+        Ok((kept, args)) => {
+            keep_args(boot_memo, row, kept);
+            Ok(args)
+        }
+        Err(_) => Err(NameFault::Memory),
     }
 }
 

@@ -98,10 +98,8 @@ fn read_result(alloc: Global, text: &[u8], names: &mut Names) -> Result<Option<K
     if text[0] == b'V' {
         return Ok(None);
     }
-    match read_field(alloc, text, names) {
-        Ok(kind) => Ok(Some(kind)),
-        Err(fault) => Err(fault),
-    }
+    let kind = read_field(alloc, text, names)?;
+    Ok(Some(kind))
 }
 
 /// The kind that a field descriptor says.

@@ -16,8 +16,8 @@ keep_element-requires c =
     place_within _ c.args.entries.now c.args.memo.now.elements.items c.args.index c.requires.memo.elements
     (passes-is_some (is_entry_text is_array_text) (text_at c.args.entries.now c.args.index) c.requires.class)
 
-pub returns-in-Ok-clause-memo : goal.returns-in-Ok-clause-memo
-returns-in-Ok-clause-memo c =
+pub returns-clause-memo : goal.returns-clause-memo
+returns-clause-memo c =
     element_noted c.args.names.now c.read_element_at.new.names c.args.entries.now c.args.memo.now c.keep_element.new.memo c.args.index
     c.requires.memo (passes-is_some (is_entry_text is_array_text) (text_at c.args.entries.now c.args.index) c.requires.class)
-    c.in-Ok.kind c.in-Ok.ensures.names c.in-Ok.ensures.kind c.keep_element.ensures.elements c.keep_element.ensures.numbers c.keep_element.ensures.kinds c.keep_element.ensures.descrs
+    c.in_ok-kind.kind c.in_ok-kind.ensures.names c.in_ok-kind.ensures.kind c.keep_element.ensures.elements c.keep_element.ensures.numbers c.keep_element.ensures.kinds c.keep_element.ensures.descrs

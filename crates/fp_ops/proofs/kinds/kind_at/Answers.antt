@@ -17,8 +17,8 @@ keep_kind-requires c =
     place_within _ c.args.entries.now c.args.memo.now.kinds.items c.args.index c.requires.memo.kinds
     (passes-is_some (is_entry_text is_field_descriptor) (text_at c.args.entries.now c.args.index) c.requires.descr)
 
-pub returns-in-Ok-clause-memo : goal.returns-in-Ok-clause-memo
-returns-in-Ok-clause-memo c =
+pub returns-clause-memo : goal.returns-clause-memo
+returns-clause-memo c =
     kind_noted c.args.names.now c.read_kind_at.new.names c.args.entries.now c.args.memo.now c.keep_kind.new.memo c.args.index
     c.requires.memo (passes-is_some (is_entry_text is_field_descriptor) (text_at c.args.entries.now c.args.index) c.requires.descr)
-    c.in-Ok.kind c.in-Ok.ensures.names c.in-Ok.ensures.kind c.keep_kind.ensures.kinds c.keep_kind.ensures.numbers c.keep_kind.ensures.elements c.keep_kind.ensures.descrs
+    c.in_ok-kind.kind c.in_ok-kind.ensures.names c.in_ok-kind.ensures.kind c.keep_kind.ensures.kinds c.keep_kind.ensures.numbers c.keep_kind.ensures.elements c.keep_kind.ensures.descrs

@@ -21,6 +21,6 @@ pub returns-in-Ok-pair-clause-memo : goal.returns-in-Ok-pair-clause-memo
 returns-in-Ok-pair-clause-memo c =
     descr_noted c.args.names.now c.read_kinds_at.new.names c.args.entries.now c.args.memo.now c.keep_descr.new.memo c.args.index
     c.requires.memo (passes-is_some (is_entry_text is_method_descriptor) (text_at c.args.entries.now c.args.index) c.requires.descr)
-    c.in-Ok-read_kinds_at.kinds c.in-Ok-read_kinds_at.ensures.names c.in-Ok-read_kinds_at.ensures.kinds
+    c.in_ok-kinds.kinds c.in_ok-kinds.ensures.names c.in_ok-kinds.ensures.kinds
     (subst (λ d. c.keep_descr.new.memo.descrs.items ≡ set c.args.memo.now.descrs.items c.args.index (Some d)) c.in-Ok-pair.ensures.0 c.keep_descr.ensures.descrs)
     c.keep_descr.ensures.numbers c.keep_descr.ensures.kinds c.keep_descr.ensures.elements

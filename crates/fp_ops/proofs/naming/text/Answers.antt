@@ -13,8 +13,8 @@ returns-in-Some-clause-names c = number_interned c.args.names.now c.args.entries
 pub keep_number-requires : goal.keep_number-requires
 keep_number-requires c = place_within _ c.args.entries.now c.args.memo.now.numbers.items c.args.index c.requires.memo.numbers c.requires.there
 
-pub returns-in-Ok-clause-memo : goal.returns-in-Ok-clause-memo
-returns-in-Ok-clause-memo c =
+pub returns-clause-memo : goal.returns-clause-memo
+returns-clause-memo c =
     number_noted c.args.names.now c.intern_text.new.names c.args.entries.now c.args.memo.now c.keep_number.new.memo c.args.index
-    c.requires.memo c.requires.there (unwrap_or (text_at c.args.entries.now c.args.index) [] ∷ []) c.in-Ok.number
-    c.in-Ok.ensures.names c.in-Ok.ensures.number c.keep_number.ensures.numbers c.keep_number.ensures.kinds c.keep_number.ensures.elements c.keep_number.ensures.descrs
+    c.requires.memo c.requires.there (unwrap_or (text_at c.args.entries.now c.args.index) [] ∷ []) c.in_ok-number.number
+    c.in_ok-number.ensures.names c.in_ok-number.ensures.number c.keep_number.ensures.numbers c.keep_number.ensures.kinds c.keep_number.ensures.elements c.keep_number.ensures.descrs

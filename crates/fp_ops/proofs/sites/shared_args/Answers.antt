@@ -17,8 +17,8 @@ keep_args-requires c = row_within c.args.names.now c.args.entries.now c.args.boo
 pub returns-in-Ok-pair-clause-rows : goal.returns-in-Ok-pair-clause-rows
 returns-in-Ok-pair-clause-rows c =
     let entries = c.args.entries.now in
-    let args = c.in-Ok-boot_args.args in
+    let args = c.in_ok-args.args in
     args_noted c.args.names.now c.boot_args.new.names entries c.args.boots.now c.args.boot_memo.now c.keep_args.new.memo c.args.row args c.requires.rows
-    (subst (λ indexes. Taken (Ok args) c.args.names.now c.boot_args.new.names (flat_map (arg_texts_at entries) indexes)) c.row_args.ensures c.in-Ok-boot_args.ensures.names)
-    (subst (λ indexes. AllZip (IsArgAt c.boot_args.new.names entries) indexes args) c.row_args.ensures c.in-Ok-boot_args.ensures.args)
+    (subst (λ indexes. Taken (Ok args) c.args.names.now c.boot_args.new.names (flat_map (arg_texts_at entries) indexes)) c.row_args.ensures c.in_ok-args.ensures.names)
+    (subst (λ indexes. AllZip (IsArgAt c.boot_args.new.names entries) indexes args) c.row_args.ensures c.in_ok-args.ensures.args)
     (subst (λ a. c.keep_args.new.memo.args.items ≡ set c.args.boot_memo.now.args.items c.args.row (Some a)) c.in-Ok-pair.ensures.0 c.keep_args.ensures)
