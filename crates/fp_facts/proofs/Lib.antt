@@ -32,3 +32,4 @@ pub mod BegunClasses
 pub mod ClosedSuperclasses
 pub mod MetNames
 pub mod ClosedAncestors
+pub mod ReferenceCandidates

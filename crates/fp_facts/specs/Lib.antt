@@ -1,7 +1,9 @@
+pub mod Behaviour
 pub mod Bits
 pub mod Dataflow
 pub mod Edges
 pub mod Effects
+pub mod Facts
 pub mod Frames
 pub mod Hierarchy
 pub mod Initialisation
@@ -9,8 +11,10 @@ pub mod Kinded
 pub mod Lattices
 pub mod Moves
 pub mod Origins
+pub mod References
 pub mod Resolution
 pub mod Seeds
 pub mod Selection
 pub mod Sorts
+pub mod Steps
 pub mod Transfer

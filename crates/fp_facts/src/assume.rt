@@ -4,7 +4,7 @@ use sqlite_items::Items;
 use std::alloc::Global;
 
 /// What a run takes for granted of classes outside the set, by the numbers of the names as they were given.
-#[derive(Debug, Drop)]
+#[derive(Drop)]
 pub struct Assume {
     /// The methods that neither have an effect nor read what changes.
     pub pure: Items<u32>,

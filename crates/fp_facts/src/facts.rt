@@ -1,5 +1,10 @@
+ghost use Rattle.std.specs.Prelude.{◌≡◌, ◌<◌, Some, length, slice_get};
+ghost use Rattle.fp_facts.specs.Facts.{called};
+
 use crate::assume::Assume;
+use crate::call_targets::CallTargets;
 use crate::origin_set::OriginSet;
+use crate::reference::Reference;
 use fp_model::{ClassId, FieldId, MethodId};
 use sqlite_items::Items;
 
@@ -14,20 +19,13 @@ pub enum Assumed {
     Pure,
 }
 
-/// A call that control may come to, and the methods that it can reach.
-#[derive(Debug, Drop)]
+/// A call that control may come to.
+#[derive(Drop)]
 pub struct CallSite {
     /// Its offset in the code, in bytes.
     pub pc: u16,
-    /// The methods of the set that it can reach, ascending. The bit of each is its place here, and the bit behind them all is that of
-    /// the outside.
-    pub targets: Items<MethodId>,
-    /// The bits of what it reaches whatever classes have objects, ascending.
-    pub always: Items<u32>,
-    /// The classes whose objects let it reach more, ascending, and the bits of that.
-    pub watch: Items<(ClassId, Items<u32>)>,
-    /// What is taken for granted of the method that its reference means.
-    pub assumed: Assumed,
+    /// The number of its reference, among those of the facts.
+    pub call: u32,
     /// The origins of each argument, the receiver first.
     pub args: Items<OriginSet>,
 }
@@ -46,7 +44,7 @@ pub enum AccessForm {
 }
 
 /// A read or a write that control may come to.
-#[derive(Debug, Drop)]
+#[derive(Drop)]
 pub struct Access {
     /// Its offset in the code, in bytes.
     pub pc: u16,
@@ -60,7 +58,7 @@ pub struct Access {
 }
 
 /// What the code of a method does.
-#[derive(Debug, Drop)]
+#[derive(Drop)]
 pub struct MethodFacts {
     pub method: MethodId,
     /// Its calls, in the order of the code.
@@ -80,8 +78,12 @@ pub struct MethodFacts {
 }
 
 /// What analyses read of a set of classes and of the words of a run.
-#[derive(Debug, Drop)]
+#[derive(Drop)]
 pub struct Facts {
+    /// The references of calls, each once, in the order in which they are met.
+    pub references: Items<Reference>,
+    /// What calls of each reference can reach.
+    pub calls: Items<CallTargets>,
     /// The methods with code.
     pub methods: Items<MethodFacts>,
     /// The classes of the objects that the roots may be handed.
@@ -90,4 +92,39 @@ pub struct Facts {
     pub roots: Items<MethodId>,
     /// What is taken for granted of classes outside the set.
     pub assume: Assume,
+}
+
+impl Facts {
+    /// What a call can reach. Takes no memory.
+    pub fn call(&self, site: &CallSite) -> &CallTargets
+        requires { site.now.call < length self.now.calls }
+        ensures { slice_get self.now.calls site.now.call ≡ Some result.now }
+    {
+        &self.calls.as_slice()[site.call as usize]
+    }
+
+    /// The methods of the set that a call can reach, ascending. The bit of each is its place here, and the bit behind them all is
+    /// that of the outside. Takes no memory.
+    pub fn targets(&self, site: &CallSite) -> &[MethodId]
+        requires { site.now.call < length self.now.calls }
+        ensures { result.now ≡ (called self.now site.now).targets }
+    {
+        self.call(site).targets.as_slice()
+    }
+
+    /// The bits of what it reaches whatever classes have objects, ascending. Takes no memory.
+    pub fn always(&self, site: &CallSite) -> &[u32]
+        requires { site.now.call < length self.now.calls }
+        ensures { result.now ≡ (called self.now site.now).always }
+    {
+        self.call(site).always.as_slice()
+    }
+
+    /// The classes whose objects let it reach more, ascending, and the bits of that. Takes no memory.
+    pub fn watch(&self, site: &CallSite) -> &[(ClassId, Items<u32>)]
+        requires { site.now.call < length self.now.calls }
+        ensures { result.now ≡ (called self.now site.now).watch }
+    {
+        self.call(site).watch.as_slice()
+    }
 }

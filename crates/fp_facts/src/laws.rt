@@ -8,6 +8,7 @@ ghost use Rattle.fp_model.specs.declared.class.instr.Instr.{Instr};
 ghost use Rattle.fp_model.specs.declared.kind.Sort.{Sort};
 ghost use Rattle.fp_model.specs.declared.kind.Sort.TheVariants.{Unset};
 ghost use Rattle.fp_model.specs.SoundCode.{IsSoundMethod};
+ghost use Rattle.fp_facts.specs.declared.reference.Reference.{Reference};
 ghost use Rattle.fp_facts.specs.Lattices.{Lattice, IsLattice, IsAllBelow, least_of, IsMonotoneStep, IsLeast};
 ghost use Rattle.fp_facts.specs.Dataflow.{Edge, Problem, solution, IsSettled, IsLawful, IsLeastFlow, Reaches};
 ghost use Rattle.fp_facts.specs.Frames.{frames};
@@ -18,7 +19,10 @@ ghost use Rattle.fp_facts.specs.Effects.{effect_of};
 ghost use Rattle.fp_facts.specs.Kinded.{IsKindedCode};
 ghost use Rattle.fp_facts.specs.Moves.{map_label, moves_problem, same_label_shape};
 ghost use Rattle.fp_facts.specs.Origins.{made_sorts};
+ghost use Rattle.fp_facts.specs.References.{reference_candidates, reference_of};
+ghost use Rattle.fp_facts.specs.Resolution.{class_of_method};
 ghost use Rattle.fp_facts.specs.Seeds.{AreLeastSeeds, seeds};
+ghost use Rattle.fp_facts.specs.Selection.{candidates_at};
 ghost use Rattle.fp_facts.specs.Sorts.{argument_words, join_sorts, sorts};
 ghost use Rattle.fp_facts.specs.Transfer.{frame_before, is_unreached, kinds_problem};
 
@@ -101,4 +105,9 @@ pub fn law_begins()
 /// superinterfaces and those of each ancestor in the set.
 pub fn law_ancestors()
     ensures { (classes : List Class) (id : ℕ) (c : Class) → IsSound classes → slice_get classes id ≡ Some c → AreClosed classes c }
+{}
+
+/// A law: what an instruction of a method can reach is what calls of its reference can.
+pub fn law_reference_candidates()
+    ensures { (set : SetView) (caller class : ℕ) (c : Class) (i : Instr) (r : Reference) → class_of_method set.classes caller ≡ Some class → slice_get set.classes class ≡ Some c → reference_of class i ≡ Some r → reference_candidates set r ≡ candidates_at set caller i }
 {}

@@ -1,4 +1,4 @@
-ghost use Rattle.std.specs.Prelude.{◌≡◌, ◌++◌, ◌∷◌, ◌==◌, [], length, OnOk};
+ghost use Rattle.std.specs.Prelude.{◌≡◌, ◌++◌, ◌∷◌, ◌==◌, [], length, IfOk, OnOk};
 
 use crate::origin::Origin;
 use sqlite_items::Items;
@@ -6,7 +6,7 @@ use std::alloc::{AllocError, Global};
 use std::marker::Model;
 
 /// The origins of a reference, ascending and each once.
-#[derive(Debug, Drop)]
+#[derive(Drop)]
 pub struct OriginSet {
     origins: Items<Origin>,
 }
@@ -35,6 +35,15 @@ impl OriginSet {
         ensures { OnOk result (self.new ≡ self.old ++ origin ∷ []) }
     {
         self.origins.push(origin)
+    }
+
+    /// The same origins once more.
+    pub fn copy(&self, alloc: Global) -> Result<OriginSet, AllocError>
+        ensures { IfOk result (λ copy. copy ≡ self.now) }
+    {
+        Ok(OriginSet {
+            origins: Items::from_slice(alloc, self.origins.as_slice())?,
+        })
     }
 
     /// The origins.

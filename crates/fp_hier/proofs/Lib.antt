@@ -13,7 +13,6 @@ mod InterfaceMethods
 mod Lineages
 mod MarkedRows
 mod MemberReferences
-mod NoCalls
 mod ReachLemmas
 mod ReceiverNames
 mod ReceiverRows

@@ -11,7 +11,7 @@ use Rattle.fp_facts.specs.Hierarchy.{has_number}
 use Rattle.fp_facts.specs.Selection.{Candidates, Reached, all_reached, ascending_among, bits_of, target_list, watched_bits}
 use Rattle.fp_hier.specs.Bits.{AreToldTargets, as_candidates, as_reached, bits_without, has_bits}
 use Rattle.fp_hier.specs.Targets.{AreCallTargets, AreTargets, AreTargetsByClass}
-use Rattle.fp_hier.specs.declared.targets.CallTargets.{CallTargets}
+use Rattle.fp_facts.specs.declared.call_targets.CallTargets.{CallTargets}
 use Rattle.fp_hier.specs.declared.targets.Targets.{Targets}
 use Rattle.fp_hier.proofs.AscendingLists.{filter-agree, has-filter_range, has-from_contains, is-filter}
 use Rattle.fp_hier.proofs.TargetBits.{is_reached}

@@ -3,7 +3,7 @@ use Rattle.std.specs.Prelude.{◌≡◌, ℕ, ◌==◌, nat_lt, Bool, not, List,
 use Rattle.std.specs.List.Sorted.{IsStrictlyIncreasing}
 use Rattle.fp_facts.specs.Hierarchy.{has_number}
 use Rattle.fp_facts.specs.Selection.{Candidates, Reached, all_reached, always_bits, bits_of, watched_bits}
-use Rattle.fp_hier.specs.declared.targets.CallTargets.{CallTargets}
+use Rattle.fp_facts.specs.declared.call_targets.CallTargets.{CallTargets}
 use Rattle.fp_hier.specs.declared.targets.Targets.{Targets}
 
 -- what is reached

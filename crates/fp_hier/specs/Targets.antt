@@ -1,7 +1,7 @@
 -- The targets of selection and of calls, as they are told.
 use Rattle.std.specs.Prelude.{◌≡◌, ℕ, List, [], ◌∷◌, ⊤}
 use Rattle.fp_facts.specs.Selection.{Candidates, Reached, always_bits, ascending_among, target_list, watched_bits}
-use Rattle.fp_hier.specs.declared.targets.CallTargets.{CallTargets}
+use Rattle.fp_facts.specs.declared.call_targets.CallTargets.{CallTargets}
 use Rattle.fp_hier.specs.declared.targets.Targets.{Targets}
 
 -- what is reached, among so many methods

@@ -8,7 +8,8 @@ ghost use Rattle.fp_facts.specs.Selection.{Candidates, all_reached, bits_of};
 ghost use Rattle.fp_hier.specs.Bits.{AreToldTargets, as_candidates, as_reached, bits_without, has_bits, place_in};
 ghost use Rattle.fp_hier.specs.Targets.{AreCallTargets, AreTargets, AreTargetsByClass};
 
-use crate::targets::{CallTargets, Targets};
+use crate::targets::Targets;
+use fp_facts::CallTargets;
 use fp_model::{ClassId, MethodId};
 use sqlite_items::Items;
 use std::alloc::{AllocError, Global};

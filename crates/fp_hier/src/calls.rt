@@ -4,7 +4,8 @@ ghost use Rattle.fp_model.specs.Descriptor.{text_of};
 ghost use Rattle.fp_model.specs.ClassSet.{class_named, methods_of};
 ghost use Rattle.fp_facts.specs.Hierarchy.{class_of_name, has_number, superclasses};
 ghost use Rattle.fp_facts.specs.Selection as selection;
-ghost use Rattle.fp_facts.specs.Selection.{Reached, candidates_of, dispatched, fixed, goes_by_receiver, selected_above, special_reached, virtual_candidates};
+ghost use Rattle.fp_facts.specs.References.{reference_candidates};
+ghost use Rattle.fp_facts.specs.Selection.{Reached, dispatched, fixed, goes_by_receiver, selected_above, special_reached, virtual_candidates};
 ghost use Rattle.fp_hier.specs.Hierarchies.{IsHierOf};
 ghost use Rattle.fp_hier.specs.Reach.{IsReach};
 ghost use Rattle.fp_hier.specs.Targets.{AreTargets};
@@ -17,7 +18,8 @@ use crate::selection::{Receiver, fixed_target, selected};
 use crate::signature::Signature;
 use crate::targets::Targets;
 use crate::texts::is_object;
-use fp_model::{Class, ClassId, ClassSet, Instr, name_text};
+use fp_facts::{CallForm, Reference};
+use fp_model::{Class, ClassId, ClassSet, name_text};
 use sqlite_items::Items;
 use std::alloc::{AllocError, Global};
 
@@ -32,67 +34,43 @@ pub(crate) struct CallReach {
     pub(crate) by_class: Vec<(ClassId, Targets)>,
 }
 
-/// A reference to a method, by the number of its class's name, and its signature.
+/// A method as it is named, by the number of its class's name, and its signature.
 #[derive(Clone, Copy)]
-struct Reference {
+struct NamedMethod {
     class: u32,
     signature: Signature,
 }
 
-impl Reference {
-    fn new(class: u32, name: u32, descr: u32) -> Reference
-        ensures class { result.class ≡ class }
-        ensures signature { result.signature ≡ record { name = name; descr = descr } }
-    {
-        let signature = Signature { name, descr };
-        Reference { class, signature }
-    }
-}
-
-/// What an instruction of a class's method reaches: nothing, where it is no call.
+/// What calls of a reference reach.
 pub(crate) fn reach(
     alloc: Global,
     hier: &Hier,
     set: &ClassSet,
-    caller: &Class,
-    instr: &Instr,
+    reference: Reference,
 ) -> Result<CallReach, AllocError>
-    requires { IsHierOf set.now hier.now }
-    ensures { IfOk result (IsReach (length (methods_of set.now.classes)) (candidates_of set.now caller.now instr.now)) }
+    requires hier { IsHierOf set.now hier.now }
+    requires caller { reference.caller < length set.now.classes }
+    ensures { IfOk result (IsReach (length (methods_of set.now.classes)) (reference_candidates set.now reference)) }
 {
-    match instr {
-        Instr::InvokeStatic {
-            class,
-            name,
-            descr,
-            ..
-        } => {
-            let resolved = hier.resolve_method(set, *class, *name, *descr);
+    let Reference {
+        class,
+        name,
+        descr,
+        ..
+    } = reference;
+    let signature = Signature { name, descr };
+    let named = NamedMethod { class, signature };
+    match reference.form {
+        CallForm::Static => {
+            let resolved = resolve_method(hier, set, class, signature);
             Ok(always(alloc, fixed_target(alloc, set, resolved, Receiver::Class)?))
         }
-        Instr::InvokeSpecial {
-            class,
-            name,
-            descr,
-            ..
-        } => {
-            let reference = Reference::new(*class, *name, *descr);
-            Ok(always(alloc, special(alloc, hier, set, caller, reference)?))
+        CallForm::Special => {
+            let caller = set.class(reference.caller);
+            Ok(always(alloc, special(alloc, hier, set, caller, named)?))
         }
-        Instr::InvokeVirtual {
-            class,
-            name,
-            descr,
-            ..
-        }
-        | Instr::InvokeInterface {
-            class,
-            name,
-            descr,
-            ..
-        } => by_receiver(alloc, hier, set, Reference::new(*class, *name, *descr)),
-        Instr::InvokeDynamic { .. } => Ok(always(alloc, Targets::none(alloc, true))),
-        _ => Ok(always(alloc, Targets::none(alloc, false))),
+        CallForm::Virtual => by_receiver(alloc, hier, set, named),
+        CallForm::Dynamic => Ok(always(alloc, Targets::none(alloc, true))),
     }
 }
 
@@ -112,7 +90,7 @@ fn special(
     hier: &Hier,
     set: &ClassSet,
     caller: &Class,
-    reference: Reference,
+    reference: NamedMethod,
 ) -> Result<Targets, AllocError>
     requires { IsHierOf set.now hier.now }
     ensures { IfOk result (AreTargets (length (methods_of set.now.classes)) (special_reached set.now caller.now reference.class reference.signature.name reference.signature.descr)) }
@@ -128,7 +106,7 @@ fn special(
 }
 
 // Whether it is the constructor of `java/lang/Object`, which is outside the set.
-fn is_empty_constructor(set: &ClassSet, reference: Reference) -> bool
+fn is_empty_constructor(set: &ClassSet, reference: NamedMethod) -> bool
     ensures { result ≡ selection.is_empty_constructor set.now reference.class reference.signature.name reference.signature.descr }
 {
     let names = set.names();
@@ -139,7 +117,7 @@ fn is_empty_constructor(set: &ClassSet, reference: Reference) -> bool
 }
 
 // Whether a superclass's method is called.
-fn is_super_call(set: &ClassSet, caller: &Class, reference: Reference) -> bool
+fn is_super_call(set: &ClassSet, caller: &Class, reference: NamedMethod) -> bool
     ensures { result ≡ selection.is_super_call set.now caller.now reference.class reference.signature.name }
 {
     name_text(set.names(), reference.signature.name) != CONSTRUCTOR
@@ -171,7 +149,7 @@ fn from_superclass(
     hier: &Hier,
     set: &ClassSet,
     caller: &Class,
-    reference: Reference,
+    reference: NamedMethod,
 ) -> Result<Targets, AllocError>
     requires { IsHierOf set.now hier.now }
     ensures { IfOk result (AreTargets (length (methods_of set.now.classes)) (selected_above set.now caller.now reference.signature.name reference.signature.descr)) }
@@ -187,7 +165,7 @@ fn by_receiver(
     alloc: Global,
     hier: &Hier,
     set: &ClassSet,
-    reference: Reference,
+    reference: NamedMethod,
 ) -> Result<CallReach, AllocError>
     requires { IsHierOf set.now hier.now }
     ensures { IfOk result (IsReach (length (methods_of set.now.classes)) (virtual_candidates set.now reference.class reference.signature.name reference.signature.descr)) }
@@ -215,7 +193,7 @@ fn by_each_class(
     alloc: Global,
     hier: &Hier,
     set: &ClassSet,
-    reference: Reference,
+    reference: NamedMethod,
 ) -> Result<CallReach, AllocError>
     requires { IsHierOf set.now hier.now }
     ensures { IfOk result (IsReach (length (methods_of set.now.classes)) (dispatched set.now reference.class reference.signature.name reference.signature.descr)) }

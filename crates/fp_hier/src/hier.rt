@@ -1,6 +1,7 @@
 //! The hierarchy of a set of classes, and what references and calls mean in it.
 ghost use Rattle.std.specs.Prelude.{◌≡◌, ◌<◌, length, IfOk, IfSome};
 ghost use Rattle.fp_model.specs.ClassSet.{fields_of, methods_of};
+ghost use Rattle.fp_facts.specs.References.{reference_candidates};
 ghost use Rattle.fp_facts.specs.Resolution as resolution;
 ghost use Rattle.fp_facts.specs.Selection as selection;
 ghost use Rattle.fp_facts.specs.Selection.{candidates_at, selected_at};
@@ -13,8 +14,9 @@ use crate::declared::Declared;
 use crate::receivers::Receivers;
 use crate::signature::Signature;
 use crate::superinterfaces::Superinterfaces;
-use crate::targets::{CallTargets, MethodName, Targets};
+use crate::targets::{MethodName, Targets};
 use crate::{resolution, selection};
+use fp_facts::{CallTargets, Reference};
 use fp_model::{ClassId, ClassSet, FieldId, Instr, MethodId};
 use std::alloc::{AllocError, Global};
 
@@ -101,8 +103,24 @@ impl Hier {
         requires caller { caller < length (methods_of set.now.classes) }
         ensures { IfOk result (AreCallTargets (length (methods_of set.now.classes)) (candidates_at set.now caller ins.now)) }
     {
-        let class = set.class(set.class_of_method(caller));
-        let reached = reach(alloc, self, set, class, ins)?;
+        match Reference::of(set.class_of_method(caller), ins) {
+            Some(reference) => self.reference_targets(alloc, set, reference),
+            None => Ok(CallTargets::none(alloc)),
+        }
+    }
+
+    /// The methods that calls of a reference can reach (JVMS SE 21 section 6.5).
+    pub fn reference_targets(
+        &self,
+        alloc: Global,
+        set: &ClassSet,
+        reference: Reference,
+    ) -> Result<CallTargets, AllocError>
+        requires hier { IsHierOf set.now self.now }
+        requires caller { reference.caller < length set.now.classes }
+        ensures { IfOk result (AreCallTargets (length (methods_of set.now.classes)) (reference_candidates set.now reference)) }
+    {
+        let reached = reach(alloc, self, set, reference)?;
         call_targets(alloc, reached.always, reached.by_class)
     }
 

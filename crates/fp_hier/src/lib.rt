@@ -17,4 +17,4 @@ mod targets;
 mod texts;
 
 pub use hier::Hier;
-pub use targets::{CallTargets, MethodName, Targets};
+pub use targets::{MethodName, Targets};

@@ -1,7 +1,7 @@
 ghost use Rattle.std.specs.Prelude.{◌≡◌, ℕ, []};
 ghost use Rattle.fp_hier.specs.Targets.{AreTargets};
 
-use fp_model::{ClassId, MethodId};
+use fp_model::MethodId;
 use sqlite_items::Items;
 use std::alloc::Global;
 
@@ -37,15 +37,4 @@ impl Targets {
             outside,
         }
     }
-}
-
-/// The methods that a call can reach.
-#[derive(Drop)]
-pub struct CallTargets {
-    /// Those of the set, ascending and each once. The bit of each is its place here, and the bit behind them all is that of the outside.
-    pub targets: Items<MethodId>,
-    /// The bits of what it reaches whatever classes have objects, ascending.
-    pub always: Items<u32>,
-    /// The classes whose objects let it reach more, ascending, and the bits of that.
-    pub watch: Items<(ClassId, Items<u32>)>,
 }

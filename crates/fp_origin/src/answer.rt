@@ -3,7 +3,7 @@ use sqlite_items::Items;
 use std::alloc::AllocError;
 
 /// The origins of the words of a code's frames.
-#[derive(Debug, Drop)]
+#[derive(Drop)]
 pub struct Origins {
     /// Those of each word of the frame before each instruction, the local variables and then the stack; none where no way
     /// leads there.

@@ -25,7 +25,7 @@ pub const MOST_ORIGIN_PAIRS: u64 = 16_777_216;
 const GROUP: usize = 64;
 
 /// The frames as far as some origins say, and the room that is left for pairs.
-#[derive(Debug, Drop)]
+#[derive(Drop)]
 struct Gathered {
     frames: Vec<Option<WordSets>>,
     room: u64,

@@ -10,7 +10,7 @@ use std::alloc::{AllocError, Global};
 use std::marker::Model;
 
 /// The set of origins of each word of a frame.
-#[derive(Debug, Drop)]
+#[derive(Drop)]
 pub(crate) struct WordSets {
     sets: Vec<OriginSet>,
 }

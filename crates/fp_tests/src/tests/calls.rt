@@ -1,6 +1,7 @@
 //! Which methods the calls of class files can reach, and what their references mean, worked out by hand.
 use super::files::load_files;
-use fp_hier::{CallTargets, Hier};
+use fp_facts::CallTargets;
+use fp_hier::Hier;
 use fp_model::{ClassSet, MethodId};
 use indexmap::IndexMap;
 use std::alloc::{AllocError, Global};

@@ -1,7 +1,8 @@
 //! Small hierarchies, with what references and calls mean in them, each worked out by hand. The last class of each, Z, is abstract,
 //! and its method has the calls of the table behind it, one after the other.
 use super::files::load_files;
-use fp_hier::{CallTargets, Hier, MethodName};
+use fp_facts::CallTargets;
+use fp_hier::{Hier, MethodName};
 use fp_model::{ClassSet, Instr, MethodId};
 use indexmap::IndexMap;
 use std::alloc::{AllocError, Global};
