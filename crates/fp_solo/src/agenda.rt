@@ -1,5 +1,5 @@
 //! Which places are wanted, and which tasks they start.
-ghost use Rattle.std.specs.Prelude.{◌≡◌, ◌<◌, ◌==◌, ◌||◌, ℕ, false, Contains, length, IsTrue, OnOk};
+ghost use Rattle.std.specs.Prelude.{◌≡◌, ◌<◌, ◌↔◌, ◌==◌, ◌||◌, ℕ, Contains, length, IsTrue, OnOk};
 ghost use Rattle.fp_eqs.specs.Answers.{asked};
 ghost use Rattle.fp_eqs.specs.Makers.{is_maker};
 ghost use Rattle.fp_eqs.specs.Solved.{flag_at};
@@ -27,6 +27,7 @@ pub struct Agenda {
 /// Whether a task may ask many places.
 pub fn is_wide<S: System, L: Ledger>(system: &Counted<'_, S, L>, task: u32) -> bool
     requires { task < (S.equations system.now.system).tasks }
+    ensures { IsTrue result ↔ (FEW_ASKS < ((S.equations system.now.system).task task).asks) }
 {
     system.bound(task).asks > FEW_ASKS
 }
