@@ -1,0 +1,9 @@
+mod attr;
+mod base;
+mod cells;
+mod class;
+mod forms;
+mod ops;
+mod pool;
+mod table;
+mod words;
