@@ -1,6 +1,7 @@
 mod bits;
 mod calls;
 mod eqs;
+mod extract;
 mod facts;
 mod files;
 mod flow;

@@ -31,7 +31,7 @@ const ROWS: &str = "\
     ";
 
 /// The origins of a word.
-fn set_text(alloc: Global, set: &OriginSet) -> Result<String, AllocError> {
+pub fn set_text(alloc: Global, set: &OriginSet) -> Result<String, AllocError> {
     let mut names = Vec::new(alloc);
     for origin in set.as_slice() {
         names.push(format!(in alloc; "{origin:?}")?)?;
@@ -125,7 +125,7 @@ const H: &str = "\
     ";
 
 /// A class P with a field v and methods that set it in an object that they are handed or make. Its method 2 makes one.
-const P: &str = "\
+pub const P: &str = "\
     cafebabe00000034001b010001500700010100106a6176612f6c616e672f4f626a6563740700030100017601000149010003637572010003\
     4c503b0100063c696e69743e010003282956010004436f64650c0009000a0a0004000c0c00050006090002000e0100036261640c00070008\
     0900020011010003736574010006284c503b29560c001300140a000200150100026d6b01000528294c503b0a0002000c0100026f6b002100\

@@ -1,0 +1,2 @@
+pub mod MetReferences
+pub mod NextSteps
