@@ -1,7 +1,7 @@
-mod AscendingLists
+pub mod AscendingLists
 mod BitPlaces
 mod CallerClasses
-mod DeclaringClasses
+pub mod DeclaringClasses
 mod EndingChains
 mod FieldWalks
 mod FirstGiven
@@ -10,7 +10,7 @@ mod FirstNamed
 mod GivenMembers
 mod InheritedNames
 mod InterfaceMethods
-mod Lineages
+pub mod Lineages
 mod MarkedRows
 mod MemberReferences
 mod ReachLemmas

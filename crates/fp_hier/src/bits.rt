@@ -48,8 +48,8 @@ fn told_targets(
     })
 }
 
-/// Numbers, ascending and each once.
-pub(crate) fn ascending(mut numbers: Vec<u32>) -> Vec<u32>
+/// Numbers, ascending and each once. Takes no memory.
+pub fn ascending(mut numbers: Vec<u32>) -> Vec<u32>
     ensures rising { IsStrictlyIncreasing result.items }
     ensures members { (n : ℕ) → has_number result.items n ≡ has_number numbers.items n }
 {

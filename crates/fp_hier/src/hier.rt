@@ -1,6 +1,8 @@
 //! The hierarchy of a set of classes, and what references and calls mean in it.
-ghost use Rattle.std.specs.Prelude.{◌≡◌, ◌<◌, length, IfOk, IfSome};
+ghost use Rattle.std.specs.Prelude.{◌≡◌, ◌<◌, ◌∷◌, length, slice_get, Some, IfOk, IfSome};
+ghost use Rattle.fp_model.specs.declared.class.Class.{Class};
 ghost use Rattle.fp_model.specs.ClassSet.{fields_of, methods_of};
+ghost use Rattle.fp_facts.specs.Hierarchy.{ancestors};
 ghost use Rattle.fp_facts.specs.References.{reference_candidates};
 ghost use Rattle.fp_facts.specs.Resolution as resolution;
 ghost use Rattle.fp_facts.specs.Selection as selection;
@@ -12,6 +14,7 @@ use crate::bits::call_targets;
 use crate::calls::reach;
 use crate::declared::Declared;
 use crate::receivers::Receivers;
+use crate::receivers::own_names::own_names;
 use crate::signature::Signature;
 use crate::superinterfaces::Superinterfaces;
 use crate::targets::{MethodName, Targets};
@@ -41,6 +44,21 @@ impl Hier {
             declared,
             receivers,
         })
+    }
+
+    /// The names that a class goes by: its own, those of its superclasses from the nearest up, and then those of the superinterfaces of
+    /// all of these (JVMS SE 21 section 4.1). A name may stand there more than once.
+    pub fn names_of(
+        &self,
+        alloc: Global,
+        set: &ClassSet,
+        class: ClassId,
+    ) -> Result<Vec<u32>, AllocError>
+        requires hier { IsHierOf set.now self.now }
+        requires class { class < length set.now.classes }
+        ensures { IfOk result (λ names. (c : Class) → slice_get set.now.classes class ≡ Some c → names.items ≡ c.name ∷ ancestors set.now.classes c) }
+    {
+        own_names(alloc, set, &self.superinterfaces, class)
     }
 
     /// The method that a reference means, by the numbers of its class's name, of its name and of its descriptor; none where the set has

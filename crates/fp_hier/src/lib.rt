@@ -16,5 +16,6 @@ mod superinterfaces;
 mod targets;
 mod texts;
 
+pub use bits::ascending;
 pub use hier::Hier;
 pub use targets::{MethodName, Targets};

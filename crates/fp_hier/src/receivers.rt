@@ -8,7 +8,7 @@ ghost use Rattle.fp_hier.specs.Lists.{AreListsOf};
 
 mod marking;
 mod marks;
-mod own_names;
+pub(crate) mod own_names;
 
 use crate::bit_rows::BitRows;
 use crate::flags::is_concrete;

@@ -13,7 +13,7 @@ use fp_model::{Class, ClassId, ClassSet};
 use std::alloc::{AllocError, Global};
 
 /// A class's name and those of its ancestors: its superclasses from the nearest up, and then the superinterfaces of all of these.
-pub(super) fn own_names(
+pub(crate) fn own_names(
     alloc: Global,
     set: &ClassSet,
     superinterfaces: &Superinterfaces,
