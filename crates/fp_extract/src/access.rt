@@ -6,10 +6,13 @@ ghost use Rattle.fp_facts.specs.Behaviour as behaviour;
 ghost use Rattle.fp_facts.specs.Behaviour.{access_shape, accesses_of};
 ghost use Rattle.fp_facts.specs.Steps.{step_of, steps_of};
 ghost use Rattle.fp_hier.specs.Hierarchies.{IsHierOf};
-ghost use Rattle.fp_extract.specs.Shapes.{as_shape};
+ghost use Rattle.fp_extract.specs.Accessed.{accessed_field};
+ghost use Rattle.fp_extract.specs.Shapes.{as_shape, with_field};
 
-use crate::arguments::{operand, width};
+use crate::arguments::operand;
+use crate::lookup::accessed_field;
 use fp_facts::{Access, AccessForm, OriginSet};
+use fp_flow::{sort_of, width};
 use fp_hier::Hier;
 use fp_model::{ClassSet, FieldId, Instr};
 use sqlite_items::Items;
@@ -20,13 +23,19 @@ const STORE_LONG: u8 = 80;
 
 const STORE_DOUBLE: u8 = 82;
 
-/// A read or write, with the depths on the stack of its object or array and of what it writes.
+/// The form of a read or write, with the depths on the stack of its object or array and of what it writes.
 #[derive(Clone, Copy)]
-struct Shape {
+struct Operands {
     form: AccessForm,
-    field: Option<FieldId>,
     object: Option<usize>,
     value: Option<usize>,
+}
+
+/// A read or write, with the field of the set that it is of.
+#[derive(Clone, Copy)]
+struct Shape {
+    operands: Operands,
+    field: Option<FieldId>,
 }
 
 /// The reads and writes of a code that control may come to, in its order, by the origins of the words before each instruction.
@@ -72,12 +81,13 @@ fn push_access(
     let Some(shape) = shape else {
         return Ok(());
     };
-    let object = operand_at(alloc, words.as_slice(), shape.object)?;
-    let value = operand_at(alloc, words.as_slice(), shape.value)?;
+    let Shape { operands, field } = shape;
+    let object = operand_at(alloc, words.as_slice(), operands.object)?;
+    let value = operand_at(alloc, words.as_slice(), operands.value)?;
     accesses.push(Access {
         pc,
-        form: shape.form,
-        field: shape.field,
+        form: operands.form,
+        field,
         object,
         value,
     })?;
@@ -114,54 +124,35 @@ fn access_shape(set: &ClassSet, hier: &Hier, instr: &Instr) -> Option<Shape>
     requires { IsHierOf set.now hier.now }
     ensures { option_map as_shape result ≡ access_shape set.now.classes instr.now }
 {
-    let (form, field, object, value) = match instr {
-        Instr::GetStatic {
-            class,
-            name,
-            descr,
-            ..
-        } => {
-            let field = hier.resolve_field(set, *class, *name, *descr);
-            (AccessForm::GetStatic, field, None, None)
+    let operands = access_operands(instr)?;
+    let field = accessed_field(set, hier, instr);
+    Some(Shape { operands, field })
+}
+
+// The form in which an instruction reads or writes, and its operands.
+fn access_operands(instr: &Instr) -> Option<Operands>
+    ensures { (classes : List Class) → option_map (with_field (accessed_field classes instr.now)) result ≡ access_shape classes instr.now }
+{
+    let (form, object, value) = match instr {
+        Instr::GetStatic { .. } => (AccessForm::GetStatic, None, None),
+        Instr::PutStatic { kind, .. } => {
+            let width = width(sort_of(*kind));
+            (AccessForm::PutStatic, None, Some(width))
         }
-        Instr::PutStatic {
-            class,
-            name,
-            descr,
-            kind,
-        } => {
-            let field = hier.resolve_field(set, *class, *name, *descr);
-            (AccessForm::PutStatic, field, None, Some(width(kind)))
+        Instr::GetField { .. } => (AccessForm::GetField, Some(1), None),
+        Instr::PutField { kind, .. } => {
+            let width = width(sort_of(*kind));
+            (AccessForm::PutField, Some(width + 1), Some(width))
         }
-        Instr::GetField {
-            class,
-            name,
-            descr,
-            ..
-        } => {
-            let field = hier.resolve_field(set, *class, *name, *descr);
-            (AccessForm::GetField, field, Some(1), None)
-        }
-        Instr::PutField {
-            class,
-            name,
-            descr,
-            kind,
-        } => {
-            let field = hier.resolve_field(set, *class, *name, *descr);
-            let width = width(kind);
-            (AccessForm::PutField, field, Some(width + 1), Some(width))
-        }
-        Instr::ArrayLoad { .. } => (AccessForm::Load, None, Some(2), None),
+        Instr::ArrayLoad { .. } => (AccessForm::Load, Some(2), None),
         Instr::ArrayStore { op } => {
             let width = stored_width(*op);
-            (AccessForm::Store, None, Some(width + 2), Some(width))
+            (AccessForm::Store, Some(width + 2), Some(width))
         }
         _ => return None,
     };
-    Some(Shape {
+    Some(Operands {
         form,
-        field,
         object,
         value,
     })

@@ -1,9 +1,10 @@
 //! The origins of the operands of instructions.
-ghost use Rattle.std.specs.Prelude.{◌≡◌, ◌++◌, [], length, slice_index_or, IfOk, OnOk};
+ghost use Rattle.std.specs.Prelude.{◌≡◌, ◌++◌, ◌-◌, [], length, slice_index_or, IfOk, OnOk};
 ghost use Rattle.fp_facts.specs.Behaviour as behaviour;
 ghost use Rattle.fp_facts.specs.Sorts.{words_of_kinds};
 
 use fp_facts::OriginSet;
+use fp_flow::{sort_of, width};
 use fp_model::{Instr, Kind};
 use std::alloc::{AllocError, Global};
 
@@ -29,23 +30,13 @@ fn first(alloc: Global, words: &[OriginSet]) -> Result<OriginSet, AllocError>
     }
 }
 
-/// How many words a value of a type takes.
-pub(crate) fn width(kind: &Kind) -> usize
-    ensures { result ≡ behaviour.width_of kind.now }
-{
-    match kind {
-        Kind::Long | Kind::Double => 2,
-        _ => 1,
-    }
-}
-
 // How many words values of types take.
 fn count_words(kinds: &[Kind]) -> usize
     ensures { result ≡ length (words_of_kinds kinds.now) }
 {
     let mut count = 0;
     for kind in kinds {
-        count += width(kind);
+        count += width(sort_of(*kind));
     }
     count
 }
@@ -62,25 +53,20 @@ fn push_arguments(
     let mut rest = words;
     for kind in kinds {
         sets.push(first(alloc, rest)?)?;
-        rest = &rest[width(kind).min(rest.len())..];
+        let taken = width(sort_of(*kind)).min(rest.len());
+        rest = &rest[taken..];
     }
     Ok(())
 }
 
-// Adds the origins of a call's arguments without its receiver.
-fn push_all(
-    alloc: Global,
-    kinds: &[Kind],
-    words: &[OriginSet],
-    sets: &mut Vec<OriginSet>,
-) -> Result<(), AllocError>
-    ensures { OnOk result (sets.new.items ≡ sets.old.items ++ behaviour.arguments kinds.now words.now) }
+// Where the words of a call's arguments without its receiver begin.
+fn place_of_arguments(kinds: &[Kind], words: &[OriginSet]) -> usize
+    ensures { result ≡ length words.now - length (words_of_kinds kinds.now) }
 {
-    let place = words.len().saturating_sub(count_words(kinds));
-    push_arguments(alloc, kinds, &words[place..], sets)
+    words.len().saturating_sub(count_words(kinds))
 }
 
-// Those of a call without a receiver.
+// The origins of the arguments of a call without a receiver.
 fn arguments(
     alloc: Global,
     kinds: &[Kind],
@@ -89,7 +75,8 @@ fn arguments(
     ensures { IfOk result (λ sets. sets.items ≡ behaviour.arguments kinds.now words.now) }
 {
     let mut sets = Vec::with_capacity(alloc, kinds.len())?;
-    push_all(alloc, kinds, words, &mut sets)?;
+    let place = place_of_arguments(kinds, words);
+    push_arguments(alloc, kinds, &words[place..], &mut sets)?;
     Ok(sets)
 }
 
@@ -102,12 +89,9 @@ fn with_receiver(
     ensures { IfOk result (λ sets. sets.items ≡ behaviour.arguments_with_receiver kinds.now words.now) }
 {
     let mut sets = Vec::new(alloc);
-    let place = words
-        .len()
-        .saturating_sub(count_words(kinds))
-        .saturating_sub(1);
-    sets.push(first(alloc, &words[place..])?)?;
-    push_all(alloc, kinds, words, &mut sets)?;
+    let place = place_of_arguments(kinds, words);
+    sets.push(first(alloc, &words[place.saturating_sub(1)..])?)?;
+    push_arguments(alloc, kinds, &words[place..], &mut sets)?;
     Ok(sets)
 }
 

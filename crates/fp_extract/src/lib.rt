@@ -4,6 +4,7 @@
 
 mod access;
 mod arguments;
+mod lookup;
 mod objects;
 mod outcomes;
 mod references;
