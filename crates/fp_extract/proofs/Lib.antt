@@ -1,2 +1,5 @@
+mod BegunLists
+pub mod BegunSteps
+mod InitialisedClasses
 pub mod MetReferences
 pub mod NextSteps

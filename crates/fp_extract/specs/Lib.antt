@@ -1,2 +1,3 @@
 pub mod Accessed
+pub mod Begun
 pub mod Shapes

@@ -4,6 +4,8 @@
 
 mod access;
 mod arguments;
+mod begun;
+mod initialisers;
 mod lookup;
 mod objects;
 mod outcomes;
