@@ -1,8 +1,12 @@
 -- Tables of references grow at their end, and keep their numbers.
 use Rattle.std.proofs.Common.{◌≡◌, ℕ, ◌+◌, Bool, true, false, List, [], ◌∷◌, ◌++◌, length, cond, if◌then◌else◌, ◌||◌, inl, inr, ◌⊎◌, refl, sym, ap, subst, ◌∙◌}
-use Rattle.std.specs.List.{flat_map, list_any, position_or_len}
+use Rattle.std.specs.List.{flat_map, fold, list_any, position_or_len}
 use Rattle.std.proofs.lemmas.Bool.{or_parts}
 use Rattle.std.proofs.lemmas.Grind.{flat_map-append}
+use Rattle.std.proofs.lemmas.List.Sums.{fold-append}
+use Rattle.fp_model.specs.ClassSet.{SetView}
+use Rattle.fp_extract.specs.declared.room.Left.{Left}
+use Rattle.fp_extract.specs.Rooms.{call_cost, left_after, left_without}
 use Rattle.std.proofs.lemmas.List.{append_assoc, append-nil}
 use Rattle.fp_facts.specs.contracts.reference.ReferenceEq.TheImpl.Laws.{laws-law as laws}
 use Rattle.fp_facts.specs.declared.facts.CallSite.{CallSite}
@@ -11,7 +15,7 @@ use Rattle.fp_facts.specs.Behaviour.{references_of, site_of, sites_of}
 use Rattle.fp_facts.specs.References.{has_reference, number_in, same_reference, with_reference, with_references}
 use Rattle.fp_facts.specs.Steps.{Step}
 
-known-or-not : (b : Bool) → (b ≡ true) ⊎ (b ≡ false)
+pub known-or-not : (b : Bool) → (b ≡ true) ⊎ (b ≡ false)
 known-or-not true = inl refl
 known-or-not false = inr refl
 
@@ -97,3 +101,11 @@ pub table-next : (caller : ℕ) (table new : List Reference) (here rest : List S
     with_references new (references_of caller rest) ≡ with_references table (references_of caller (here ++ rest))
 table-next caller table new here rest is =
     ap (λ t. with_references t (references_of caller rest)) is ∙ sym (with-both table (references_of caller here) (references_of caller rest)) ∙ ap (with_references table) (sym (references-both caller here rest))
+
+-- what is left after the calls of some steps and then of the rest
+pub left-next : (set : SetView) (caller : ℕ) (before new : Left) (here rest : List Step) → new ≡ left_after set before (references_of caller here) →
+    left_after set new (references_of caller rest) ≡ left_after set before (references_of caller (here ++ rest))
+left-next set caller before new here rest is =
+    ap (λ l. left_after set l (references_of caller rest)) is
+    ∙ sym (fold-append (λ (l : Left) (r : Reference). left_without l (call_cost set r)) before (references_of caller here) (references_of caller rest))
+    ∙ ap (left_after set before) (sym (references-both caller here rest))

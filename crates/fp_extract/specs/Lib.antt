@@ -1,3 +1,9 @@
 pub mod Accessed
 pub mod Begun
+pub mod Calling
+pub mod Gathering
+pub mod Refusals
+pub mod Rooms
+pub mod SeedGraph
 pub mod Shapes
+pub mod Within

@@ -39,7 +39,7 @@ struct Shape {
 }
 
 /// The reads and writes of a code that control may come to, in its order, by the origins of the words before each instruction.
-pub fn accesses(
+pub(crate) fn accesses(
     alloc: Global,
     set: &ClassSet,
     hier: &Hier,

@@ -1,19 +1,22 @@
-//! What the code of a method does, list by list: the calls, objects, reads and writes that control may come to, and what it gives
-//! back and raises.
+//! The facts of a set of classes: what the code of each method does, what calls can reach, and where a run may start.
 #![tactic(auto)]
 
 mod access;
 mod arguments;
 mod begun;
+mod calls;
+mod fault;
 mod initialisers;
 mod lookup;
+mod methods;
 mod objects;
 mod outcomes;
 mod references;
+mod room;
+mod seed;
+mod set_facts;
 mod site;
 
-pub use access::accesses;
-pub use objects::{allocs, news};
-pub use outcomes::{returned, thrown};
-pub use references::References;
-pub use site::sites;
+pub use fault::FactsFault;
+pub use room::Room;
+pub use set_facts::facts;

@@ -10,7 +10,7 @@ use sqlite_items::Items;
 use std::alloc::{AllocError, Global};
 
 /// The classes of the set that a code makes objects of where control may come, in the order of the code.
-pub fn news(
+pub(crate) fn news(
     alloc: Global,
     set: &ClassSet,
     instrs: &[(u16, Instr)],
@@ -57,7 +57,7 @@ fn made_class(set: &ClassSet, instr: &Instr) -> Option<ClassId>
 }
 
 /// The offsets at which a code makes objects and arrays where control may come, in its order.
-pub fn allocs(
+pub(crate) fn allocs(
     alloc: Global,
     instrs: &[(u16, Instr)],
     frames: &[Option<Items<OriginSet>>],

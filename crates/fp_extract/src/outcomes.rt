@@ -13,7 +13,7 @@ use std::alloc::{AllocError, Global};
 const RETURN_REFERENCE: u8 = 176;
 
 /// The origins of what each `areturn` of a code gives back that control may come to, in the order of the code.
-pub fn returned(
+pub(crate) fn returned(
     alloc: Global,
     instrs: &[(u16, Instr)],
     frames: &[Option<Items<OriginSet>>],
@@ -51,7 +51,7 @@ fn push_returned(
 }
 
 /// The origins of what each `athrow` of a code raises that control may come to, in the order of the code.
-pub fn thrown(
+pub(crate) fn thrown(
     alloc: Global,
     instrs: &[(u16, Instr)],
     frames: &[Option<Items<OriginSet>>],

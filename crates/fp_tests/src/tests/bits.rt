@@ -1,4 +1,5 @@
 //! Rows of bits.
+use super::table::check;
 use fp_bits::{Row, count, join, law_join, law_join_rows, within};
 use std::alloc::{AllocError, Global};
 use std::test::Fail;
@@ -47,11 +48,7 @@ fn told(alloc: Global, input: &str) -> Result<String, Fail> {
 
 #[test]
 fn a_join_is_the_union_and_tells_a_change(rt: HostRuntime) -> Result<(), Fail> {
-    for row in JOINS.lines() {
-        let (input, wanted) = row.rsplit_once(';').ok_or("no answer")?;
-        assert_eq!(rt; told(rt.alloc(), input)?.as_str(), wanted, "at {row}");
-    }
-    Ok(())
+    check(&rt, rt.alloc(), JOINS, told)
 }
 
 #[test]

@@ -4,6 +4,7 @@ ghost use Rattle.fp_flow.specs.Reached.{keeps_within, reached, reached-lawful};
 ghost use Rattle.fp_model.specs.SoundCode.{IsSoundMethod};
 
 use super::files::{class_of, method_file};
+use super::table::check;
 use fp_flow::{Dataflow, edges, law_edges, solve};
 use fp_model::Method;
 use std::alloc::{AllocError, Global};
@@ -57,11 +58,7 @@ fn told(alloc: Global, input: &str) -> Result<String, Fail> {
 
 #[test]
 fn edges_lead_to_the_next_to_targets_and_to_handlers(rt: HostRuntime) -> Result<(), Fail> {
-    for row in EDGES.lines() {
-        let (input, wanted) = row.rsplit_once(';').ok_or("no answer")?;
-        assert_eq!(rt; told(rt.alloc(), input)?.as_str(), wanted, "at {row}");
-    }
-    Ok(())
+    check(&rt, rt.alloc(), EDGES, told)
 }
 
 /// A class file with 65,535 instructions that each lead to 1,024 handlers, and all but the last to the next one: 67,173,374 edges.

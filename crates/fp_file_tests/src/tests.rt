@@ -1,9 +1,0 @@
-mod attr;
-mod base;
-mod cells;
-mod class;
-mod forms;
-mod ops;
-mod pool;
-mod table;
-mod words;
