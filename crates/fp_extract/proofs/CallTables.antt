@@ -1,22 +1,20 @@
 -- The table of what calls can reach, as calls are met.
-use Rattle.std.proofs.Common.{◌≡◌, ℕ, ◌+◌, ◌<◌, Bool, true, false, IsTrue, not, ◌&&◌, List, [], ◌∷◌, ◌++◌, length, get_or, map, refl, sym, ap, subst, ◌∙◌, arith, zero, suc}
+use Rattle.std.proofs.Common.{◌≡◌, ℕ, Bool, true, false, IsTrue, not, ◌&&◌, List, [], ◌∷◌, ◌++◌, length, map, refl, sym, ap, ◌∙◌}
 use Rattle.std.specs.Prelude.{Option, Some, None, is_some, slice_get, option_map, if◌then◌else◌}
 use Rattle.std.proofs.lemmas.Option.{slice_get-map}
-use Rattle.std.proofs.lemmas.List.{append-nil, get_or-map, length-map, map-append}
+use Rattle.std.proofs.lemmas.List.{map-append}
 use Rattle.fp_model.specs.ClassSet.{SetView}
 use Rattle.fp_facts.specs.declared.call_targets.CallTargets.{CallTargets}
 use Rattle.fp_facts.specs.declared.reference.Reference.{Reference}
 use Rattle.fp_facts.specs.Behaviour.{allocs_of}
 use Rattle.fp_facts.specs.Facts.{Coded, call_targets, references_in}
 use Rattle.fp_facts.specs.Steps.{steps}
-use Rattle.fp_facts.specs.References.{has_reference, number_in, same_reference, with_reference}
+use Rattle.fp_facts.specs.References.{has_reference, with_reference}
 use Rattle.fp_facts.specs.Selection.{Candidates, always_bits, target_list}
 use Rattle.fp_hier.specs.Targets.{AreCallTargets}
 use Rattle.fp_extract.specs.declared.room.Cost.{Cost}
 use Rattle.fp_extract.specs.declared.room.Left.{Left}
-use Rattle.fp_extract.specs.Rooms.{call_cost, fits, left_after, left_by, left_less, left_without, less, targets_of}
-use Rattle.fp_extract.proofs.MetReferences.{number-told, table-told}
-use Rattle.fp_extract.proofs.SameReferences.{one-reference}
+use Rattle.fp_extract.specs.Rooms.{call_cost, fits, left_after, left_by, left_less, left_without, less}
 
 -- ---- what is left
 

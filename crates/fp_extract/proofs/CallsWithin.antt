@@ -1,5 +1,5 @@
 -- Each call of the facts has the number of one of the references.
-use Rattle.std.proofs.Common.{◌≡◌, ℕ, ◌+◌, ◌<◌, Bool, true, false, ◌&&◌, ◌||◌, List, [], ◌∷◌, ◌++◌, All, length, map, inl, inr, refl, sym, ap, subst, ◌∙◌, arith}
+use Rattle.std.proofs.Common.{◌≡◌, ℕ, ◌<◌, Bool, true, false, ◌||◌, List, [], ◌∷◌, All, length, map, inl, inr, refl, sym, ap, subst, ◌∙◌, arith}
 use Rattle.std.specs.Prelude.{Option, Some, None}
 use Rattle.std.specs.List.{flat_map, list_all, list_any, position_or_len}
 use Rattle.std.specs.Option.{option_map_or, option_to_list}
@@ -10,7 +10,6 @@ use Rattle.std.proofs.lemmas.List.Folds.{list_all-append, list_any-append}
 use Rattle.fp_model.specs.ClassSet.{SetView}
 use Rattle.fp_facts.specs.declared.assume.Assume.{Assume}
 use Rattle.fp_facts.specs.declared.facts.CallSite.{CallSite}
-use Rattle.fp_facts.specs.declared.facts.Facts.{Facts}
 use Rattle.fp_facts.specs.declared.facts.MethodFacts.{MethodFacts}
 use Rattle.fp_facts.specs.declared.reference.Reference.{Reference}
 use Rattle.fp_facts.specs.Behaviour.{call_arguments, references_of, site_of, sites_of}

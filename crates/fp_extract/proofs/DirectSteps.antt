@@ -1,7 +1,7 @@
 -- What direct steps from classes to their superclasses and superinterfaces keep holds of all names that a class goes by.
-use Rattle.std.proofs.Common.{◌≡◌, ◌==◌, ◌+◌, ◌||◌, ◌⊎◌, ℕ, zero, suc, Bool, true, false, IsTrue, IfSome, List, [], ◌∷◌, ◌++◌, Option, Some, None, length, refl, sym, ap, subst, ◌∙◌, inl, inr, if◌then◌else◌}
+use Rattle.std.proofs.Common.{◌≡◌, ◌==◌, ◌+◌, ℕ, zero, suc, Bool, true, false, IsTrue, IfSome, List, [], ◌∷◌, ◌++◌, Option, Some, None, length, refl, ap, subst, ◌∙◌, inl, inr, if◌then◌else◌}
 use Rattle.std.specs.Prelude.{fold, slice_get, option_and_then}
-use Rattle.std.specs.List.{flat_map, list_any}
+use Rattle.std.specs.List.{flat_map}
 use Rattle.std.specs.Option.{option_map_or, option_to_list}
 use Rattle.fp_model.specs.declared.class.Class.{Class}
 use Rattle.fp_model.specs.ClassSet.{class_named}
@@ -78,9 +78,9 @@ module _ (classes : List Class) where
         elim (either (has_number names n) (has_number (x ∷ []) n) (subst (λ b. IsTrue b) (has-append names (x ∷ []) n) h)) [
           | inl before ↦ all n before
           | inr last ↦ elim (either (x == n) false last) [
-              | inl same ↦ subst P (same-place x n same) here
-              | inr none ↦ (let wrong : false ≡ true = none in absurd cc)
-            ]
+            | inl same ↦ subst P (same-place x n same) here
+            | inr none ↦ (let wrong : false ≡ true = none in absurd cc)
+          ]
         ]
 
     met-keep : (levels : ℕ) (met names : List ℕ) → ((n : ℕ) → IsTrue (has_number met n) → P n) → ((n : ℕ) → IsTrue (has_number names n) → P n) →

@@ -1,6 +1,6 @@
 -- The facts that are gathered are those of the set.
-use Rattle.std.proofs.Common.{◌≡◌, ℕ, Bool, true, false, IsTrue, List, [], ◌∷◌, ◌++◌, map, refl, sym, ap, ap₂, subst, ◌∙◌}
-use Rattle.std.specs.Prelude.{Option, Some, None, Result, Ok, Err, is_some}
+use Rattle.std.proofs.Common.{◌≡◌, ℕ, true, IsTrue, List, [], map, refl, ap, ◌∙◌}
+use Rattle.std.specs.Prelude.{Option, Some, None, Ok}
 use Rattle.std.proofs.lemmas.List.{append-nil}
 use Rattle.fp_model.specs.ClassSet.{SetView}
 use Rattle.fp_facts.specs.declared.assume.Assume.{Assume}
@@ -10,10 +10,7 @@ use Rattle.fp_facts.specs.declared.facts.MethodFacts.{MethodFacts}
 use Rattle.fp_facts.specs.declared.reference.Reference.{Reference}
 use Rattle.fp_facts.specs.Facts.{code_facts, coded, facts_of, references}
 use Rattle.fp_facts.specs.Seeds.{seeds}
-use Rattle.fp_extract.specs.declared.fault.FactsFault.{FactsFault}
-use Rattle.fp_extract.specs.declared.fault.FactsFault.TheVariants as fault
 use Rattle.fp_extract.specs.declared.methods.Gathered.{Gathered}
-use Rattle.fp_extract.specs.declared.room.Left.{Left}
 use Rattle.fp_extract.specs.declared.room.Room.{Room}
 use Rattle.fp_extract.specs.Calling.{IsCallTable}
 use Rattle.fp_extract.specs.Gathering.{HasGathered}

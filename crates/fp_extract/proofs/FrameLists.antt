@@ -1,7 +1,6 @@
 -- The frames of a code as a list, and the method of a number with its code.
-use Rattle.std.proofs.Common.{◌≡◌, ℕ, ◌+◌, ◌<◌, List, [], ◌∷◌, length, map, get_or, refl, sym, ap, subst, ◌∙◌, arith}
+use Rattle.std.proofs.Common.{◌≡◌, ℕ, ◌<◌, List, [], ◌∷◌, length, sym, ap, subst, ◌∙◌, arith}
 use Rattle.std.specs.Prelude.{All, Option, Some, None, slice_get, unwrap_or}
-use Rattle.std.specs.List.{range_with_len}
 use Rattle.std.specs.Option.{option_map_or}
 use Rattle.std.proofs.lemmas.List.{same_lists}
 use Rattle.std.proofs.lemmas.List.Elements.{All-get_or}
@@ -13,9 +12,9 @@ use Rattle.fp_model.specs.declared.class.Method.{Method}
 use Rattle.fp_model.specs.declared.class.instr.Instr.{Instr}
 use Rattle.fp_model.specs.ClassSet.{methods_of}
 use Rattle.fp_facts.specs.declared.origin.Origin.{Origin}
-use Rattle.fp_facts.specs.Facts.{Coded, coded_at, with_code}
+use Rattle.fp_facts.specs.Facts.{coded_at, with_code}
 use Rattle.fp_facts.specs.Origins.{origins_before}
-use Rattle.fp_facts.specs.Resolution.{class_of_method, method_at}
+use Rattle.fp_facts.specs.Resolution.{class_of_method}
 use Rattle.fp_facts.specs.Steps.{frames_of, steps, steps_of}
 use Rattle.fp_origin.specs.Answers.{AreOrigins}
 use Rattle.fp_origin.specs.declared.answer.Origins.{Origins}

@@ -1,6 +1,6 @@
 -- The facts of one method more.
-use Rattle.std.proofs.Common.{◌≡◌, ℕ, ◌+◌, ◌<◌, Bool, true, false, IsTrue, ◌||◌, List, [], ◌∷◌, ◌++◌, length, map, refl, sym, ap, subst, ◌∙◌, arith, zero, suc}
-use Rattle.std.specs.List.{flat_map, fold, list_any, range_with_len}
+use Rattle.std.proofs.Common.{◌≡◌, ℕ, true, false, IsTrue, List, [], ◌∷◌, ◌++◌, map, refl, sym, ap, subst, ◌∙◌}
+use Rattle.std.specs.List.{flat_map}
 use Rattle.std.proofs.lemmas.Grind.{flat_map-append}
 use Rattle.std.proofs.lemmas.List.{append_assoc, append-nil, map-append}
 use Rattle.std.proofs.lemmas.List.Folds.{list_any-append}
@@ -14,9 +14,7 @@ use Rattle.fp_facts.specs.References.{with_references}
 use Rattle.fp_facts.specs.Steps.{steps}
 use Rattle.fp_extract.specs.declared.calls.CallTable.{CallTable}
 use Rattle.fp_extract.specs.declared.methods.Gathered.{Gathered}
-use Rattle.fp_extract.specs.declared.room.Left.{Left}
 use Rattle.fp_extract.specs.declared.room.Room.{Room}
-use Rattle.fp_extract.specs.Begun.{begun_by}
 use Rattle.fp_extract.specs.Gathering.{HasGathered, facts_by}
 use Rattle.fp_extract.specs.Refusals.{has_many_pairs}
 use Rattle.fp_extract.specs.Rooms.{fits, left_by, left_of}

@@ -1,7 +1,7 @@
 -- The solution of the problem which nodes are reached.
-use Rattle.std.proofs.Common.{◌≡◌, ◌==◌, ◌<◌, ◌≤◌, ◌||◌, ℕ, zero, suc, Bool, true, false, List, All, slice_index_or, slice_set, replicate, refl, sym, ap, ◌∙◌, arith}
+use Rattle.std.proofs.Common.{◌≡◌, ◌==◌, ◌<◌, ℕ, zero, suc, Bool, true, false, List, All, slice_index_or, slice_set, replicate, refl, sym, ap, ◌∙◌, arith}
 use Rattle.std.proofs.lemmas.Bool.{ne_eqb}
-use Rattle.fp_facts.specs.Dataflow.{Edge, IsLawful, Reaches, labels, solution}
+use Rattle.fp_facts.specs.Dataflow.{Edge, IsLawful, labels, solution}
 use Rattle.fp_facts.proofs.ReachedFlows.{passes-reaches, reaches-passes}
 use Rattle.fp_facts.proofs.SmallLattices.{bools-lattice}
 use Rattle.fp_extract.specs.SeedGraph.{AreReached, reach_problem}

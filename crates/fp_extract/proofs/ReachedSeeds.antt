@@ -1,9 +1,9 @@
 -- The classes that the graph reaches are the seed classes.
-use Rattle.std.proofs.Common.{◌≡◌, ◌==◌, ◌<◌, ◌≤◌, ◌+◌, ◌*◌, ◌&&◌, ◌||◌, nat_lt, ℕ, zero, suc, Bool, true, false, IsTrue, IfSome, List, [], ◌∷◌, ◌++◌, Option, Some, None, All, filter, length, slice_index_or, refl, sym, ap, subst, ◌∙◌, inl, inr, arith}
+use Rattle.std.proofs.Common.{◌≡◌, ◌==◌, ◌<◌, ◌&&◌, nat_lt, ℕ, zero, suc, Bool, true, false, IsTrue, List, ◌∷◌, ◌++◌, Option, Some, None, filter, length, slice_index_or, refl, sym, ap, subst, ◌∙◌, inl, inr, arith}
 use Rattle.std.specs.Prelude.{slice_get}
 use Rattle.std.specs.List.{flat_map, range_with_len}
 use Rattle.std.specs.List.Sorted.{IsPermutation, IsStrictlyIncreasing}
-use Rattle.std.specs.Option.{option_map_or, option_to_list}
+use Rattle.std.specs.Option.{option_map_or}
 use Rattle.std.proofs.lemmas.Bool.{lt-ltb}
 use Rattle.std.proofs.lemmas.List.Sorted.{All-permutation, IsPermutation-sym}
 use Rattle.std.proofs.lemmas.Option.{slice_get_within}
@@ -12,13 +12,13 @@ use Rattle.fp_model.specs.ClassSet.{IsSet, SetView}
 use Rattle.fp_eqs.specs.Tests.{both, either, left, parts, place-here, right, same-place}
 use Rattle.fp_facts.specs.Dataflow.{Edge, Reaches}
 use Rattle.fp_facts.specs.Dataflow.Reaches.{along, start}
-use Rattle.fp_facts.specs.Hierarchy.{AreClosed, ancestors, class_of_name, fits, has_number, is_concrete, superclasses}
-use Rattle.fp_facts.specs.Seeds.{AreLeastSeeds, field_types, instance_types, is_within, root_types, seeds, seeds_after}
+use Rattle.fp_facts.specs.Hierarchy.{AreClosed, ancestors, fits, has_number, is_concrete, superclasses}
+use Rattle.fp_facts.specs.Seeds.{field_types, is_within, root_types, seeds, seeds_after}
 use Rattle.fp_facts.proofs.ClosedAncestors.{ancestors-closed}
 use Rattle.fp_facts.proofs.Reached.{reaches-kept}
 use Rattle.fp_facts.proofs.SeedRounds.{least-seeds}
 use Rattle.fp_hier.proofs.AscendingLists.{filter-rises, has-filter_range, same-members, same-test}
-use Rattle.fp_extract.specs.SeedGraph.{AreReached, edge, is_reached, number, seed_edges}
+use Rattle.fp_extract.specs.SeedGraph.{AreReached, is_reached, number, seed_edges}
 use Rattle.fp_extract.specs.declared.seed.node.Node.{Node}
 use Rattle.fp_extract.specs.declared.seed.node.Node.TheVariants.{Roots, Named, Below, Fields}
 use Rattle.fp_extract.proofs.DirectSteps.{fits-keep, superclasses-keep}

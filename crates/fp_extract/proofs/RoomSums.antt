@@ -1,5 +1,5 @@
 -- What is left after all methods, by sums.
-use Rattle.std.proofs.Common.{◌≡◌, ℕ, ◌+◌, ◌-◌, ◌<◌, ◌≤◌, nat_lt, ◌||◌, Bool, true, false, IsTrue, List, [], ◌∷◌, ◌++◌, length, refl, sym, ap, subst, ◌∙◌, arith, zero, suc, inl, inr, ◌⊎◌}
+use Rattle.std.proofs.Common.{◌≡◌, ℕ, ◌+◌, ◌-◌, ◌<◌, ◌≤◌, nat_lt, ◌||◌, Bool, true, false, List, [], ◌∷◌, length, refl, sym, ap, subst, ◌∙◌, arith, inl, inr}
 use Rattle.std.specs.Prelude.{Option, Some, None, Result, Ok, Err, if◌then◌else◌}
 use Rattle.std.specs.List.{flat_map, fold, list_any, range_with_len, sum_by}
 use Rattle.std.proofs.lemmas.Bool.{lt-ltb, le-ltb, cases_lt}
@@ -17,7 +17,6 @@ use Rattle.fp_facts.specs.Steps.{steps}
 use Rattle.fp_facts.proofs.ListedNumbers.{any-has, has-range}
 use Rattle.fp_extract.specs.declared.fault.FactsFault.{FactsFault}
 use Rattle.fp_extract.specs.declared.fault.FactsFault.TheVariants as fault
-use Rattle.fp_extract.specs.declared.room.Cost.{Cost}
 use Rattle.fp_extract.specs.declared.room.Left.{Left}
 use Rattle.fp_extract.specs.declared.room.Room.{Room}
 use Rattle.fp_extract.specs.Refusals.{TellsFault, TellsPairs, facts_refusal, has_many_pairs, room_left, room_of}

@@ -1,5 +1,5 @@
 -- The types of roots, and the names of all nodes of the graph.
-use Rattle.std.proofs.Common.{◌≡◌, ◌==◌, ◌<◌, ◌≤◌, ◌||◌, ◌⊎◌, ℕ, Bool, true, false, IsTrue, IfSome, All, List, [], ◌∷◌, ◌++◌, Option, Some, None, filter, length, map, refl, sym, ap, subst, ◌∙◌, inl, inr, arith, cond}
+use Rattle.std.proofs.Common.{◌≡◌, ◌==◌, ◌<◌, ◌≤◌, ◌||◌, ℕ, Bool, true, false, IsTrue, IfSome, All, List, [], ◌∷◌, ◌++◌, Option, Some, None, filter, length, map, refl, ap, subst, ◌∙◌, inl, inr, arith, cond}
 use Rattle.std.specs.Prelude.{not, slice_get, option_and_then}
 use Rattle.std.specs.List.{flat_map}
 use Rattle.std.specs.Option.{option_map_or, option_to_list}

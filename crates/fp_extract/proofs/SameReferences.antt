@@ -1,14 +1,11 @@
 -- References that are told as the same are one.
-use Rattle.std.proofs.Common.{◌≡◌, ℕ, ◌+◌, ◌<◌, ◌==◌, Bool, true, false, ◌&&◌, List, [], ◌∷◌, ◌++◌, length, get_or, map, refl, sym, ap, subst, ◌∙◌, arith, zero, suc}
-use Rattle.std.specs.List.{list_any, position_or_len}
+use Rattle.std.proofs.Common.{◌≡◌, ℕ, ◌==◌, Bool, true, false, ◌&&◌, refl, ap, ◌∙◌}
 use Rattle.std.proofs.lemmas.Bool.{eqb-true}
-use Rattle.std.proofs.lemmas.List.{append-nil, get_or-map, length-map, map-append}
 use Rattle.fp_facts.specs.contracts.reference.CallFormPartialEq.TheImpl.{ghosts as forms}
 use Rattle.fp_facts.specs.declared.reference.CallForm.{CallForm}
 use Rattle.fp_facts.specs.declared.reference.CallForm.TheVariants as form
 use Rattle.fp_facts.specs.declared.reference.Reference.{Reference}
-use Rattle.fp_facts.specs.References.{has_reference, number_in, same_reference, with_reference}
-use Rattle.fp_extract.proofs.MetReferences.{known-or-not, number-told, table-told}
+use Rattle.fp_facts.specs.References.{same_reference}
 
 pub and-true : (a b : Bool) → (a && b) ≡ true → (a ≡ true) × (b ≡ true)
 and-true true b is = (refl, is)

@@ -1,5 +1,5 @@
 -- Edges that are sorted by the nodes that they start at.
-use Rattle.std.proofs.Common.{ℕ, zero, suc, ◌+◌, ◌≤◌, ◌<◌, List, [], ◌∷◌, length, All, arith}
+use Rattle.std.proofs.Common.{suc, List, [], ◌∷◌, arith}
 use Rattle.std.specs.List.Sorted.{IsNonDecreasingBy}
 use Rattle.fp_facts.specs.Dataflow.{Edge}
 use Rattle.fp_flow.specs.Ascending.{IsAscending}

@@ -1,6 +1,5 @@
 -- What calls and allocations take of the bounds of a system.
 use Rattle.std.specs.Prelude.{ℕ, ◌+◌, ◌-◌, ◌/◌, nat_lt, Bool, ◌&&◌, List, length, fold, sum_by, is_some, Option, Some, None, if◌then◌else◌}
-use Rattle.std.specs.List.{flat_map}
 use Rattle.fp_model.specs.ClassSet.{SetView, methods_of}
 use Rattle.fp_facts.specs.declared.call_targets.CallTargets.{CallTargets}
 use Rattle.fp_facts.specs.declared.reference.Reference.{Reference}

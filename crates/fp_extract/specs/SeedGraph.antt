@@ -1,7 +1,7 @@
 -- A graph whose nodes stand for names, and which reaches the seed classes of roots.
-use Rattle.std.specs.Prelude.{◌<◌, ◌+◌, ◌*◌, ◌==◌, ◌&&◌, ℕ, Bool, false, IsTrue, List, [], ◌∷◌, ◌++◌, length, map, slice_get, slice_index_or, All, IfSome, if◌then◌else◌}
+use Rattle.std.specs.Prelude.{◌<◌, ◌+◌, ◌*◌, ◌==◌, ◌&&◌, ℕ, Bool, false, IsTrue, List, [], ◌∷◌, ◌++◌, map, slice_get, slice_index_or, All, IfSome, if◌then◌else◌}
 use Rattle.std.specs.List.{flat_map}
-use Rattle.std.specs.Option.{option_map_or, option_to_list}
+use Rattle.std.specs.Option.{option_map_or}
 use Rattle.fp_model.specs.declared.class.Class.{Class}
 use Rattle.fp_model.specs.declared.kind.Kind.{Kind}
 use Rattle.fp_facts.specs.Dataflow.{Edge, Problem, Reaches}

@@ -23,11 +23,7 @@ use std::alloc::{AllocError, Global};
 
 /// The seed classes of roots, ascending: the concrete classes of the set that go by a type of a root, or of an instance field of another
 /// seed class. A root that is no method of the set has no type.
-pub fn seeds(
-    alloc: Global,
-    set: &ClassSet,
-    roots: &[MethodId],
-) -> Result<Vec<ClassId>, AllocError>
+pub fn seeds(alloc: Global, set: &ClassSet, roots: &[MethodId]) -> Result<Vec<ClassId>, AllocError>
     ensures { IfOk result (λ ids. ids.items ≡ defined.seeds set.now.classes roots.now) }
 {
     let nodes = 3 * set.names().len() + 1;

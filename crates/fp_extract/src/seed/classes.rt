@@ -99,11 +99,7 @@ fn push_fields(
 }
 
 // Adds that to the type of a field, if it is an instance field of a class type.
-fn push_field(
-    edges: &mut Vec<(u32, u32, bool)>,
-    name: u32,
-    field: &Field,
-) -> Result<(), AllocError>
+fn push_field(edges: &mut Vec<(u32, u32, bool)>, name: u32, field: &Field) -> Result<(), AllocError>
     requires name { name < most_names }
     requires kind { IsKindWithin most_names field.now.kind }
     ensures { OnOk result (edges.new.items ≡ edges.old.items ++ type_edges (Fields name) (instance_types (field.now ∷ []))) }

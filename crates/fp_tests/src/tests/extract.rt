@@ -8,7 +8,9 @@ use super::files::{load_files, method_file};
 use super::origin::{P, set_text};
 use super::table::check;
 use fp_extract::{Room, facts};
-use fp_facts::{Access, Assume, CallSite, CallTargets, Facts, Loaded, MethodFacts, OriginSet, Reference};
+use fp_facts::{
+    Access, Assume, CallSite, CallTargets, Facts, Loaded, MethodFacts, OriginSet, Reference,
+};
 use fp_hier::Hier;
 use fp_model::{ClassSet, name_text};
 use indexmap::IndexMap;
@@ -25,10 +27,7 @@ const AMPLE: Room = Room {
 
 /// A name of a set, as text.
 fn name_of(alloc: Global, set: &ClassSet, name: u32) -> Result<String, Fail> {
-    Ok(String::from_utf8(Vec::from_slice(
-        alloc,
-        name_text(set.names(), name),
-    )?)?)
+    Ok(String::from_utf8(Vec::from_slice(alloc, name_text(set.names(), name))?)?)
 }
 
 /// The origins of some words, with commas between them.
@@ -81,7 +80,11 @@ fn targets_text(alloc: Global, call: &CallTargets) -> Result<String, AllocError>
         texts.push(format!(in alloc; "{class}{:?}", bits.as_slice())?)?;
     }
     let watch = texts.join(alloc, ",")?;
-    format!(in alloc; "{:?} {:?}/{watch}", call.targets.as_slice(), call.always.as_slice())
+    format!(in alloc;
+        "{:?} {:?}/{watch}",
+        call.targets.as_slice(),
+        call.always.as_slice()
+    )
 }
 
 /// A reference of calls, and what these can reach.
@@ -139,7 +142,14 @@ fn told(alloc: Global, digits: &str, root: u32) -> Result<String, Fail> {
     let hier = Hier::build(alloc, &loaded.set)?;
     let roots = Items::from_vec(Vec::from_array(alloc, [root])?);
     let mut room = AMPLE;
-    match facts(alloc, &loaded.set, &hier, roots, Assume::none(alloc), &mut room) {
+    match facts(
+        alloc,
+        &loaded.set,
+        &hier,
+        roots,
+        Assume::none(alloc),
+        &mut room,
+    ) {
         Ok(facts) => facts_text(alloc, &loaded.set, &facts),
         Err(fault) => Ok(format!(in alloc; "{fault:?}")?),
     }
@@ -321,7 +331,10 @@ fn facts_are_what_the_codes_say(rt: HostRuntime) -> Result<(), Fail> {
 
 #[test]
 fn initialisers_begin_and_seeds_follow_fields(rt: HostRuntime) -> Result<(), Fail> {
-    assert_eq!(rt; told(rt.alloc(), INITIALISED, 3)?.as_str(), INITIALISED_FACTS);
+    assert_eq!(rt;
+        told(rt.alloc(), INITIALISED, 3)?.as_str(),
+        INITIALISED_FACTS
+    );
     assert_eq!(rt; told(rt.alloc(), PARTS, 4)?.as_str(), PARTS_FACTS);
     Ok(())
 }
@@ -353,7 +366,14 @@ fn left_text(alloc: Global, loaded: &Loaded, mut room: Room) -> Result<String, F
 {
     let hier = Hier::build(alloc, &loaded.set)?;
     let roots = Items::new(alloc);
-    match facts(alloc, &loaded.set, &hier, roots, Assume::none(alloc), &mut room) {
+    match facts(
+        alloc,
+        &loaded.set,
+        &hier,
+        roots,
+        Assume::none(alloc),
+        &mut room,
+    ) {
         Ok(_) => Ok(format!(in alloc; "{} {} {}", room.places, room.uses, room.gives)?),
         Err(fault) => Ok(format!(in alloc; "{fault:?}")?),
     }

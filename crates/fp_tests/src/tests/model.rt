@@ -1,7 +1,7 @@
 //! Descriptors (JVMS SE 21 section 4.3), and sets of classes by number and by name.
 use super::files::load_files;
-use fp_base::Names;
 use crate::short;
+use fp_base::Names;
 use fp_model::{ClassSet, DescrFault, arg_words, is_descr, is_kind, read_descr, read_kind};
 use indexmap::IndexMap;
 use std::alloc::{AllocError, Global};

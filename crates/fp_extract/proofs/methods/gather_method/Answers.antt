@@ -1,8 +1,7 @@
-use Rattle.std.proofs.Common.{◌≡◌, ◌++◌, IsTrue, refl, List, length, [], sym, ap, ap₂, subst, ◌∙◌}
+use Rattle.std.proofs.Common.{◌++◌, IsTrue, refl, length, [], sym, ap, ap₂, subst, ◌∙◌}
 use Rattle.std.specs.Prelude.{IfSome}
-use Rattle.fp_facts.specs.declared.reference.Reference.{Reference}
 use Rattle.fp_facts.specs.Behaviour.{allocs_of, references_of}
-use Rattle.fp_facts.specs.Facts.{Coded, coded_at}
+use Rattle.fp_facts.specs.Facts.{coded_at}
 use Rattle.fp_facts.specs.Kinded.{IsKindedCode, IsKindedMethod}
 use Rattle.fp_facts.specs.References.{with_references}
 use Rattle.fp_facts.specs.Steps.{steps_of}

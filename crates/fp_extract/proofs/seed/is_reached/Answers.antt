@@ -1,4 +1,4 @@
-use Rattle.std.proofs.Common.{◌≡◌, ◌<◌, ◌+◌, ◌*◌, arith}
+use Rattle.std.proofs.Common.{◌≡◌, ◌+◌, ◌*◌, arith}
 use Rattle.fp_extract.specs.SeedGraph.{most_names}
 use Rattle.fp_extract.proofs.SeedNames.{class-over, class-within}
 use Rattle.fp_extract.proofs.seed.is_reached.Goals as goal

@@ -1,4 +1,4 @@
-use Rattle.std.proofs.Common.{◌≡◌, ◌++◌, ◌∷◌, [], filter, sym, ap, ◌∙◌}
+use Rattle.std.proofs.Common.{◌++◌, ◌∷◌, [], filter, sym, ap, ◌∙◌}
 use Rattle.fp_extract.specs.SeedGraph.{is_reached}
 use Rattle.fp_extract.proofs.NumberRanges.{one-tried-more}
 use Rattle.fp_extract.proofs.seed.reached_classes.Goals as goal

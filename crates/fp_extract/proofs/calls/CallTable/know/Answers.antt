@@ -1,4 +1,4 @@
-use Rattle.std.proofs.Common.{◌≡◌, ◌++◌, ◌∷◌, [], IsTrue, map, sym, ap, subst, ◌∙◌}
+use Rattle.std.proofs.Common.{IsTrue, map, sym, ap, subst, ◌∙◌}
 use Rattle.std.specs.Prelude.{slice_get}
 use Rattle.fp_extract.specs.Rooms.{call_cost, fits, targets_of}
 use Rattle.fp_extract.proofs.CallTables.{cost-there, map-one, new-one, not-new}

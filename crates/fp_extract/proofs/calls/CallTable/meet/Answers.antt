@@ -1,4 +1,4 @@
-use Rattle.std.proofs.Common.{◌≡◌, sym, ap₂, ◌∙◌}
+use Rattle.std.proofs.Common.{ap₂, ◌∙◌}
 use Rattle.std.proofs.lemmas.Option.{get_or_from_slice_get}
 use Rattle.fp_extract.specs.Rooms.{call_cost, left_without}
 use Rattle.fp_extract.proofs.calls.CallTable.meet.Goals as goal

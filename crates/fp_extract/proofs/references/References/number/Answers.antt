@@ -1,4 +1,4 @@
-use Rattle.std.proofs.Common.{◌≡◌, ◌++◌}
+use Rattle.std.proofs.Common.{◌++◌}
 use Rattle.fp_facts.specs.References.{same_reference}
 use Rattle.fp_extract.proofs.MetReferences.{first-stays, number-told, same-self, table-told}
 use Rattle.fp_extract.proofs.references.References.number.Goals as goal

@@ -1,4 +1,4 @@
-use Rattle.std.proofs.Common.{◌≡◌, ◌++◌, ◌≤◌, All, sym, ap, subst, ◌∙◌, arith}
+use Rattle.std.proofs.Common.{◌++◌, All, sym, ap, subst, ◌∙◌, arith}
 use Rattle.std.proofs.lemmas.List.{append-nil}
 use Rattle.fp_extract.specs.SeedGraph.{IsKindWithin, most_names, type_edges}
 use Rattle.fp_extract.specs.declared.seed.node.Node.TheVariants.{Roots}
