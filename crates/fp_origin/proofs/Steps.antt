@@ -12,8 +12,9 @@ use Rattle.fp_origin.specs.declared.answer.OriginFault.TheVariants as fault
 use Rattle.fp_origin.specs.declared.search.Gathered.{Gathered}
 use Rattle.fp_origin.specs.Answers.{most_origin_pairs}
 use Rattle.fp_origin.specs.Groups.{AreGroupLabels}
-use Rattle.fp_origin.specs.Growth.{FrameSets, IsGrown, TellsNoRoom, empty_frame, grown_frames, group_pairs, pairs_among}
+use Rattle.fp_origin.specs.Growth.{FrameSets, IsGrown, TellsNoRoom, empty_frame, first_frame, grown_frames, group_pairs, pairs_among}
 use Rattle.fp_origin.proofs.Gathering.{empty-known, grown-known, too-many}
+use Rattle.fp_origin.proofs.Growing.{first-frames}
 
 -- a group of the origins, from a place to another one
 pub group-parts : (all : List Origin) (at end : ℕ) → at ≤ end → take at all ++ take (end - at) (drop at all) ≡ take end all
@@ -39,6 +40,12 @@ step-known m code all group at end labels made frames room (Err e) parts is befo
 step-known m code all group at end labels made frames room (Ok g) parts is before known done spent =
     let P : List Origin → Type 0 = λ os. IsGrown m code os g.frames.items g.room in
     subst P parts (grown-known m code (take at all) group labels frames g.frames.items room g.room before (told-of m code group labels made is known) done spent)
+
+-- the frames of the first group
+pub first-grown : (group : List Origin) (labels : List (Label ℕ)) (r : Result Gathered OriginFault) → IfOk r (λ g. g.frames.items ≡ map (first_frame group) labels) →
+    IfOk r (λ g. g.frames.items ≡ grown_frames group labels (map empty_frame labels))
+first-grown group labels (Err e) done = tt
+first-grown group labels (Ok g) done = done ∙ first-frames group labels
 
 pub step-refused : (m : Method) (code : Code) (all group : List Origin) (at end : ℕ) (labels made : List (Label ℕ)) (frames : List FrameSets) (room : ℕ) (r : Result Gathered OriginFault) → take at all ++ group ≡ take end all → labels ≡ made →
     IsGrown m code (take at all) frames room → AreGroupLabels m code group made →

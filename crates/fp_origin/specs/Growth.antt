@@ -67,6 +67,12 @@ empty_frame Unreached = None
 empty_frame Bad = None
 empty_frame (Frame l s) = Some (map (λ _. []) (l ++ s))
 
+-- the origins of a first group that a label tells
+abbrev pub first_frame : List Origin → Label ℕ → FrameSets
+first_frame group Unreached = None
+first_frame group Bad = None
+first_frame group (Frame l s) = Some (map (chosen group) (l ++ s))
+
 -- ---- counting
 
 -- the pairs that words make with a group

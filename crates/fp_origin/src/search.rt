@@ -1,4 +1,4 @@
-ghost use Rattle.std.specs.Prelude.{◌≡◌, ◌+◌, ◌≤◌, ◌<◌, ◌++◌, Some, length, take, IfOk, IfErr};
+ghost use Rattle.std.specs.Prelude.{◌≡◌, ◌+◌, ◌≤◌, ◌<◌, ◌++◌, Some, length, map, take, IfOk, IfErr};
 ghost use Rattle.fp_model.specs.SoundCode.{IsSoundMethod};
 ghost use Rattle.fp_facts.specs.Edges.{edges_of};
 ghost use Rattle.fp_facts.specs.Kinded.{IsKindedCode};
@@ -14,7 +14,7 @@ use crate::numbering::all_origins;
 use fp_facts::{Label, Origin};
 use fp_flow::Flow;
 use fp_model::{Code, Method};
-use growth::{WordSets, as_items, empty_frames, grown_frames};
+use growth::{WordSets, as_items, first_frames, grown_frames};
 use room::room_after;
 use std::alloc::Global;
 
@@ -97,8 +97,7 @@ fn first_group(
 {
     let group = &all[..end];
     let labels = group_labels(alloc, code, flow, method, group)?;
-    let frames = empty_frames(alloc, labels.as_slice())?;
-    grown_by(alloc, frames, MOST_ORIGIN_PAIRS, labels.as_slice(), group)
+    begun_by(alloc, labels.as_slice(), group)
 }
 
 // The frames as far as one group more says, which ends before a place.
@@ -129,6 +128,28 @@ fn next_group(
     grown_by(alloc, frames, room, labels.as_slice(), group)
 }
 
+// The frames with the origins of the first group that the labels tell. Their pairs are counted before any is made.
+fn begun_by(alloc: Global, labels: &[Label<u64>], group: &[Origin]) -> Result<Gathered, OriginFault>
+    ensures frames { IfOk result (λ g. g.frames.items ≡ map (defined.first_frame group.now) labels.now) }
+    ensures room { IfOk result (λ g. g.room + defined.group_pairs group.now labels.now ≡ most_origin_pairs) }
+    ensures fault { IfErr result (defined.TellsNoRoom most_origin_pairs (defined.group_pairs group.now labels.now)) }
+{
+    let room = room_left(MOST_ORIGIN_PAIRS, labels, group)?;
+    let frames = first_frames(alloc, labels, group)?;
+    Ok(Gathered { frames, room })
+}
+
+// The room for pairs that is left behind a group, by the labels of its words.
+fn room_left(room: u64, labels: &[Label<u64>], group: &[Origin]) -> Result<u64, OriginFault>
+    ensures room { IfOk result (λ left. left + defined.group_pairs group.now labels.now ≡ room) }
+    ensures fault { IfErr result (defined.TellsNoRoom room (defined.group_pairs group.now labels.now)) }
+{
+    match room_after(room, labels, group) {
+        Some(left) => Ok(left),
+        None => Err(OriginFault::Limit),
+    }
+}
+
 // The frames with the origins of a group that the labels tell. Their pairs are counted before any is made.
 fn grown_by(
     alloc: Global,
@@ -141,9 +162,7 @@ fn grown_by(
     ensures room { IfOk result (λ g. g.room + defined.group_pairs group.now labels.now ≡ room) }
     ensures fault { IfErr result (defined.TellsNoRoom room (defined.group_pairs group.now labels.now)) }
 {
-    let Some(room) = room_after(room, labels, group) else {
-        return Err(OriginFault::Limit);
-    };
+    let room = room_left(room, labels, group)?;
     let frames = grown_frames(alloc, frames, labels, group)?;
     Ok(Gathered { frames, room })
 }

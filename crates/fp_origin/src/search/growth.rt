@@ -1,5 +1,5 @@
 //! The sets of origins of the words of frames, which grow by a group of origins at a time.
-ghost use Rattle.std.specs.Prelude.{◌≡◌, ◌==◌, ◌%◌, ◌++◌, [], ◌∷◌, if◌then◌else◌, map, slice_get, IfOk, OnOk};
+ghost use Rattle.std.specs.Prelude.{◌≡◌, ◌<◌, ◌==◌, ◌%◌, ◌++◌, [], ◌∷◌, if◌then◌else◌, length, map, slice_get, slice_index_or, slice_set, IfOk, OnOk};
 ghost use Rattle.std.specs.Option.{option_map_or};
 ghost use Rattle.fp_facts.specs.Origins as words;
 ghost use Rattle.fp_origin.specs.Growth as defined;
@@ -25,25 +25,35 @@ impl Model for WordSets {
 }
 
 impl WordSets {
-    // An empty set for each word.
-    fn empty(alloc: Global, words: &[u64]) -> Result<WordSets, AllocError>
-        ensures { IfOk result (λ w. w ≡ map (λ _. []) words.now) }
+    // The origins of a group that the local variables and the stack of a frame tell.
+    fn told(
+        alloc: Global,
+        locals: &[u64],
+        stack: &[u64],
+        group: &[Origin],
+    ) -> Result<WordSets, AllocError>
+        ensures { IfOk result (λ w. w ≡ map (defined.chosen group.now) (locals.now ++ stack.now)) }
     {
-        let mut sets = Vec::new(alloc);
-        for _word in words {
-            sets.push(OriginSet::new(alloc))?;
-        }
+        let count = locals.len().saturating_add(stack.len());
+        let mut sets = Vec::with_capacity(alloc, count)?;
+        push_told(alloc, &mut sets, locals, group)?;
+        push_told(alloc, &mut sets, stack, group)?;
         Ok(WordSets { sets })
     }
 
-    // The sets with the origins of a group that the words tell.
-    fn grown(self, alloc: Global, words: &[u64], group: &[Origin]) -> Result<WordSets, AllocError>
-        ensures { IfOk result (λ w. w ≡ defined.grown_sets group.now words.now self) }
+    // The sets with the origins of a group that a label tells.
+    #[tactic(auto, using(crate::proofs::Growing::growing))]
+    fn grown(self, label: &Label<u64>, group: &[Origin]) -> Result<WordSets, AllocError>
+        ensures { IfOk result (λ w. w ≡ defined.grown_sets group.now (words.label_words label.now) self) }
     {
-        let WordSets { sets } = self;
-        Ok(WordSets {
-            sets: grown_sets(alloc, sets, words, group)?,
-        })
+        match label {
+            Label::Frame { locals, stack } => {
+                let WordSets { mut sets } = self;
+                grow_sets(&mut sets, locals.as_slice(), stack.as_slice(), group)?;
+                Ok(WordSets { sets })
+            }
+            Label::Unreached | Label::Bad => Ok(self),
+        }
     }
 
     // The sets as a list.
@@ -55,53 +65,39 @@ impl WordSets {
     }
 }
 
-/// Frames without origins, of the shapes of labels.
-pub(crate) fn empty_frames(
+// Adds a set for each word, of the origins of a group that it tells.
+fn push_told(
     alloc: Global,
-    labels: &[Label<u64>],
-) -> Result<Vec<Option<WordSets>>, AllocError>
-    ensures { IfOk result (λ v. v.items ≡ map defined.empty_frame labels.now) }
+    sets: &mut Vec<OriginSet>,
+    words: &[u64],
+    group: &[Origin],
+) -> Result<(), AllocError>
+    ensures { OnOk result (sets.new.items ≡ sets.old.items ++ map (defined.chosen group.now) words.now) }
 {
-    let mut frames = Vec::new(alloc);
-    for label in labels {
-        frames.push(empty_frame(alloc, label)?)?;
+    for word in words {
+        sets.push(told_set(alloc, *word, group)?)?;
     }
-    Ok(frames)
+    Ok(())
 }
 
-fn empty_frame(alloc: Global, label: &Label<u64>) -> Result<Option<WordSets>, AllocError>
-    ensures { IfOk result (λ frame. frame ≡ defined.empty_frame label.now) }
+// The origins of a group that a word tells.
+fn told_set(alloc: Global, word: u64, group: &[Origin]) -> Result<OriginSet, AllocError>
+    ensures { IfOk result (λ s. s ≡ defined.chosen group.now word) }
 {
-    match label {
-        Label::Frame { .. } => {
-            let words = label_words(alloc, label)?;
-            Ok(Some(WordSets::empty(alloc, words.as_slice())?))
-        }
-        Label::Unreached | Label::Bad => Ok(None),
-    }
-}
-
-// The words of a label's frame, the local variables and then the stack.
-fn label_words(alloc: Global, label: &Label<u64>) -> Result<Vec<u64>, AllocError>
-    ensures { IfOk result (λ v. v.items ≡ words.label_words label.now) }
-{
-    let mut words = Vec::new(alloc);
-    if let Label::Frame { locals, stack } = label {
-        words.extend_from_slice(locals.as_slice())?;
-        words.extend_from_slice(stack.as_slice())?;
-    }
-    Ok(words)
+    let mut set = OriginSet::new(alloc);
+    push_chosen(&mut set, group, word)?;
+    Ok(set)
 }
 
 // Adds the origins of a group whose bits are set in a word, the lowest for the first of the group.
 fn push_chosen(set: &mut OriginSet, group: &[Origin], word: u64) -> Result<(), AllocError>
     ensures { OnOk result (set.new ≡ set.old ++ defined.chosen group.now word) }
 {
-    if word == 0 {
-        return Ok(());
-    }
     let mut rest = word;
     for origin in group {
+        if rest == 0 {
+            return Ok(());
+        }
         push_lowest(set, *origin, rest)?;
         rest /= 2;
     }
@@ -118,43 +114,83 @@ fn push_lowest(set: &mut OriginSet, origin: Origin, word: u64) -> Result<(), All
     Ok(())
 }
 
-// Adds what the word tells that stands at a place, where there is one.
-fn push_chosen_at(
-    set: &mut OriginSet,
-    words: &[u64],
-    place: usize,
-    group: &[Origin],
-) -> Result<(), AllocError>
-    ensures { OnOk result (set.new ≡ set.old ++ option_map_or (defined.chosen group.now) (slice_get words.now place) []) }
+// The word of a frame at a place, none of whose bits is set where there is no word.
+fn word_of(locals: &[u64], stack: &[u64], place: usize) -> u64
+    ensures { result ≡ slice_index_or (locals.now ++ stack.now) place 0 }
 {
-    match at(words, place) {
-        Some(word) => push_chosen(set, group, *word),
-        None => Ok(()),
+    if place < locals.len() {
+        locals[place]
+    } else {
+        stack.get(place - locals.len()).copied().unwrap_or(0)
     }
 }
 
-// The sets with the origins of a group that the words tell.
-fn grown_sets(
-    alloc: Global,
-    sets: Vec<OriginSet>,
-    words: &[u64],
+// Adds what a word tells to the set at a place.
+fn grow_set(
+    sets: &mut Vec<OriginSet>,
+    place: usize,
+    word: u64,
     group: &[Origin],
-) -> Result<Vec<OriginSet>, AllocError>
-    ensures { IfOk result (λ v. v.items ≡ defined.grown_sets group.now words.now sets.items) }
+) -> Result<(), AllocError>
+    requires { place < length sets.old.items }
+    ensures { OnOk result (sets.new.items ≡ slice_set sets.old.items place (slice_index_or sets.old.items place [] ++ defined.chosen group.now word)) }
 {
-    let mut grown = Vec::with_capacity(alloc, sets.len())?;
-    let mut place = 0;
-    for mut set in sets {
-        push_chosen_at(&mut set, words, place, group)?;
-        grown.push(set)?;
-        place += 1;
+    if word == 0 {
+        return Ok(());
     }
-    Ok(grown)
+    push_chosen(&mut sets[place], group, word)
+}
+
+// Adds what the words of a frame tell to their sets, in place: most words tell nothing.
+fn grow_sets(
+    sets: &mut Vec<OriginSet>,
+    locals: &[u64],
+    stack: &[u64],
+    group: &[Origin],
+) -> Result<(), AllocError>
+    ensures { OnOk result (sets.new.items ≡ defined.grown_sets group.now (locals.now ++ stack.now) sets.old.items) }
+{
+    for place in 0..sets.len() {
+        grow_set(sets, place, word_of(locals, stack, place), group)?;
+    }
+    Ok(())
+}
+
+/// The frames with the origins of the first group that the labels tell.
+pub(crate) fn first_frames(
+    alloc: Global,
+    labels: &[Label<u64>],
+    group: &[Origin],
+) -> Result<Vec<Option<WordSets>>, AllocError>
+    ensures { IfOk result (λ v. v.items ≡ map (defined.first_frame group.now) labels.now) }
+{
+    let mut frames = Vec::with_capacity(alloc, labels.len())?;
+    for label in labels {
+        frames.push(first_frame(alloc, label, group)?)?;
+    }
+    Ok(frames)
+}
+
+fn first_frame(
+    alloc: Global,
+    label: &Label<u64>,
+    group: &[Origin],
+) -> Result<Option<WordSets>, AllocError>
+    ensures { IfOk result (λ frame. frame ≡ defined.first_frame group.now label.now) }
+{
+    match label {
+        Label::Frame { locals, stack } => Ok(Some(WordSets::told(
+            alloc,
+            locals.as_slice(),
+            stack.as_slice(),
+            group,
+        )?)),
+        Label::Unreached | Label::Bad => Ok(None),
+    }
 }
 
 // The frame with the origins of a group that its label tells.
 fn grown_frame(
-    alloc: Global,
     frame: Option<WordSets>,
     label: &Label<u64>,
     group: &[Origin],
@@ -162,17 +198,13 @@ fn grown_frame(
     ensures { IfOk result (λ f. f ≡ defined.grown_frame group.now label.now frame) }
 {
     match frame {
-        Some(sets) => {
-            let words = label_words(alloc, label)?;
-            Ok(Some(sets.grown(alloc, words.as_slice(), group)?))
-        }
+        Some(sets) => Ok(Some(sets.grown(label, group)?)),
         None => Ok(None),
     }
 }
 
 // The frame with what the label tells that stands at a number, where there is one.
 fn grown_at(
-    alloc: Global,
     frame: Option<WordSets>,
     labels: &[Label<u64>],
     number: usize,
@@ -181,7 +213,7 @@ fn grown_at(
     ensures { IfOk result (λ f. f ≡ option_map_or (λ label. defined.grown_frame group.now label frame) (slice_get labels.now number) frame) }
 {
     match at(labels, number) {
-        Some(label) => grown_frame(alloc, frame, label, group),
+        Some(label) => grown_frame(frame, label, group),
         None => Ok(frame),
     }
 }
@@ -198,7 +230,7 @@ pub(crate) fn grown_frames(
     let mut grown = Vec::with_capacity(alloc, frames.len())?;
     let mut number = 0;
     for frame in frames {
-        grown.push(grown_at(alloc, frame, labels, number, group)?)?;
+        grown.push(grown_at(frame, labels, number, group)?)?;
         number += 1;
     }
     Ok(grown)

@@ -50,12 +50,12 @@ fn room_after_word(room: u64, word: u64, group: &[Origin]) -> Option<u64>
 fn chosen_count(word: u64, group: &[Origin]) -> usize
     ensures { result ≡ length (defined.chosen group.now word) }
 {
-    if word == 0 {
-        return 0;
-    }
     let mut count = 0;
     let mut rest = word;
     for _origin in group {
+        if rest == 0 {
+            return count;
+        }
         if rest % 2 == 1 {
             count += 1;
         }

@@ -1,6 +1,0 @@
-use Rattle.std.proofs.Common.{◌≡◌, map, take}
-use Rattle.fp_origin.specs.Growth as defined
-use Rattle.fp_origin.proofs.search.growth.empty_frames.Given as goal
-
-abbrev pub invariant-loop-label : goal.invariant-loop-label
-invariant-loop-label l = l.frames.items ≡ map defined.empty_frame (take l.label-index l.labels)
