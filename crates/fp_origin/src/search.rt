@@ -6,6 +6,7 @@ ghost use Rattle.fp_origin.specs.Answers.{AreOrigins, TellsFault, most_origin_pa
 ghost use Rattle.fp_origin.specs.Growth as defined;
 
 mod growth;
+mod lowest;
 mod room;
 
 use crate::answer::{OriginFault, Origins};

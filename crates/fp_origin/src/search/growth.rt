@@ -4,6 +4,7 @@ ghost use Rattle.std.specs.Option.{option_map_or};
 ghost use Rattle.fp_facts.specs.Origins as words;
 ghost use Rattle.fp_origin.specs.Growth as defined;
 
+use super::lowest::low_zeros;
 use fp_facts::{Label, Origin, OriginSet};
 use sqlite_items::{Items, at};
 use std::alloc::{AllocError, Global};
@@ -91,6 +92,14 @@ fn told_set(alloc: Global, word: u64, group: &[Origin]) -> Result<OriginSet, All
 
 // Adds the origins of a group whose bits are set in a word, the lowest for the first of the group.
 fn push_chosen(set: &mut OriginSet, group: &[Origin], word: u64) -> Result<(), AllocError>
+    ensures { OnOk result (set.new ≡ set.old ++ defined.chosen group.now word) }
+{
+    let first = low_zeros(word, group);
+    push_from(set, &group[first as usize..], word >> first)
+}
+
+// Adds them from the lowest bit on.
+fn push_from(set: &mut OriginSet, group: &[Origin], word: u64) -> Result<(), AllocError>
     ensures { OnOk result (set.new ≡ set.old ++ defined.chosen group.now word) }
 {
     let mut rest = word;

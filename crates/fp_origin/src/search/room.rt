@@ -2,6 +2,7 @@
 ghost use Rattle.std.specs.Prelude.{◌≡◌, ◌≤◌, length};
 ghost use Rattle.fp_origin.specs.Growth as defined;
 
+use super::lowest::low_zeros;
 use fp_facts::{Label, Origin};
 
 /// The room for pairs that is left behind a group, by the labels of its words; none where it is too small.
@@ -48,6 +49,17 @@ fn room_after_word(room: u64, word: u64, group: &[Origin]) -> Option<u64>
 
 // How many origins of a group a word tells.
 fn chosen_count(word: u64, group: &[Origin]) -> usize
+    ensures { result ≡ length (defined.chosen group.now word) }
+{
+    if word == 0 {
+        return 0;
+    }
+    let first = low_zeros(word, group);
+    count_from(word >> first, &group[first as usize..])
+}
+
+// How many they are, counted from the lowest bit on.
+fn count_from(word: u64, group: &[Origin]) -> usize
     ensures { result ≡ length (defined.chosen group.now word) }
 {
     let mut count = 0;

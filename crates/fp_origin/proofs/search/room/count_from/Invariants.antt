@@ -1,6 +1,6 @@
 use Rattle.std.proofs.Common.{◌≡◌, ◌+◌, ◌≤◌, length, drop}
 use Rattle.fp_origin.specs.Growth.{chosen}
-use Rattle.fp_origin.proofs.search.room.chosen_count.Given as goal
+use Rattle.fp_origin.proofs.search.room.count_from.Given as goal
 
 abbrev pub invariant-loop-origin : goal.invariant-loop-origin
 invariant-loop-origin l = record {
