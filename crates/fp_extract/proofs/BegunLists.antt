@@ -13,12 +13,12 @@ use Rattle.std.proofs.lemmas.Option.{slice_get_cases, slice_get_within}
 use Rattle.fp_model.specs.declared.class.Class.{Class}
 use Rattle.fp_model.specs.ClassSet.{SetView}
 use Rattle.fp_facts.specs.Hierarchy.{ancestors, classes_among, has_number}
-use Rattle.fp_facts.specs.Initialisation.{has_initialiser, initialised_by, is_initialiser, with_ancestors}
-use Rattle.fp_facts.specs.Steps.{Step}
+use Rattle.fp_facts.specs.Initialisation.{has_initialiser, is_initialiser, with_ancestors}
+use Rattle.fp_facts.specs.Selection.{ascending_among}
 use Rattle.fp_facts.proofs.ListedNumbers.{any-from, any-has, has-filter, has-flat}
 use Rattle.fp_eqs.specs.Tests.{false-if_not, same-bool}
 use Rattle.fp_hier.proofs.AscendingLists.{is-filter}
-use Rattle.fp_extract.specs.Begun.{begun_by, initialised_of, is_flagged}
+use Rattle.fp_extract.specs.Begun.{is_flagged}
 
 -- ---- one by one
 
@@ -94,18 +94,21 @@ known-too false c known h = refl
 known-too true false known h = refl
 known-too true true known h = sym (h refl)
 
-pub all-begun : (set : SetView) (flags : List Bool) (steps : List Step) (listed classes begun last : List ℕ) → flags ≡ map (has_initialiser set) (range_with_len 0 (length set.classes)) →
-    listed ≡ initialised_of set.classes steps → ((n : ℕ) → has_number classes n ≡ has_number listed n) → begun ≡ filter (is_flagged flags) (flat_map (with_ancestors set.classes) classes) →
-    IsStrictlyIncreasing last → ((n : ℕ) → has_number last n ≡ has_number begun n) → last ≡ begun_by set steps
-all-begun set flags steps listed classes begun last are named same is rising members =
+-- the classes that some things begin to initialise
+pub all-begun : {X : Type 0} (f : X → Option ℕ) (set : SetView) (flags : List Bool) (xs : List X) (listed classes begun last : List ℕ) → flags ≡ map (has_initialiser set) (range_with_len 0 (length set.classes)) →
+    listed ≡ flat_map (λ x. option_to_list (f x)) xs → ((n : ℕ) → has_number classes n ≡ has_number listed n) → begun ≡ filter (is_flagged flags) (flat_map (with_ancestors set.classes) classes) →
+    IsStrictlyIncreasing last → ((n : ℕ) → has_number last n ≡ has_number begun n) →
+    last ≡ ascending_among (length set.classes) (filter (has_initialiser set) (flat_map (λ x. flat_map (with_ancestors set.classes) (option_to_list (f x))) xs))
+all-begun f set flags xs listed classes begun last are named same is rising members =
     let above = with_ancestors set.classes in
-    let all = flat_map (λ (s : Step). flat_map above (option_to_list (initialised_by set.classes s.instr))) steps in
+    let given = flat_map (λ x. option_to_list (f x)) xs in
+    let all = flat_map (λ x. flat_map above (option_to_list (f x))) xs in
     let count = length set.classes in
     let among : (n : ℕ) → has_number (flat_map above classes) n ≡ has_number all n = λ n.
     has-flat above classes n
-    ∙ same-any (λ class. has_number (above class) n) classes (initialised_of set.classes steps) (λ m. same m ∙ ap (λ l. has_number l m) named)
-    ∙ sym (has-flat above (initialised_of set.classes steps) n)
-    ∙ ap (λ l. has_number l n) (flat-both (λ (s : Step). option_to_list (initialised_by set.classes s.instr)) above steps) in
+    ∙ same-any (λ class. has_number (above class) n) classes given (λ m. same m ∙ ap (λ l. has_number l m) named)
+    ∙ sym (has-flat above given n)
+    ∙ ap (λ l. has_number l n) (flat-both (λ x. option_to_list (f x)) above xs) in
     let passed : (n : ℕ) → has_number begun n ≡ (has_initialiser set n && has_number all n) = λ n.
     ap (λ l. has_number l n) is
     ∙ has-filter (is_flagged flags) (flat_map above classes) n

@@ -1,4 +1,4 @@
-mod BegunLists
+pub mod BegunLists
 pub mod BegunSteps
 mod CallTables
 mod CallsWithin

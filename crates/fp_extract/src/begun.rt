@@ -100,8 +100,8 @@ fn initialised_by(set: &ClassSet, hier: &Hier, instr: &Instr) -> Option<ClassId>
     }
 }
 
-// Those of some classes and of their ancestors that have an initialiser.
-fn begun_from(
+/// Those of some classes and of their ancestors in the set that have an initialiser, by the flags of all classes.
+pub fn begun_from(
     alloc: Global,
     set: &ClassSet,
     hier: &Hier,

@@ -15,7 +15,7 @@ const NAME: &[u8] = b"<clinit>";
 const DESCRIPTOR: &[u8] = b"()V";
 
 /// Whether each class has an initialiser: a static method `<clinit>()V` with code (JVMS SE 21 section 2.9.2).
-pub(crate) fn initialisers(alloc: Global, set: &ClassSet) -> Result<Vec<bool>, AllocError>
+pub fn initialiser_flags(alloc: Global, set: &ClassSet) -> Result<Vec<bool>, AllocError>
     ensures { IfOk result (λ flags. flags.items ≡ map (has_initialiser set.now) (range_with_len 0 (length set.now.classes))) }
 {
     let (classes, _fields, _methods) = set.counts();
@@ -41,8 +41,8 @@ fn has_initialiser_among(names: &Names, methods: &[Method]) -> bool
     methods.iter().any(|method| is_initialiser(names, method))
 }
 
-// Whether a method is the initialiser of its class.
-fn is_initialiser(names: &Names, method: &Method) -> bool
+/// Whether a method is the initialiser of its class.
+pub fn is_initialiser(names: &Names, method: &Method) -> bool
     ensures { result ≡ is_initialiser names.now method.now }
 {
     is_static(method.flags)

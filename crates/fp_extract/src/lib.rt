@@ -17,6 +17,8 @@ mod seed;
 mod set_facts;
 mod site;
 
+pub use begun::begun_from;
 pub use fault::FactsFault;
+pub use initialisers::{initialiser_flags, is_initialiser};
 pub use room::Room;
 pub use set_facts::facts;

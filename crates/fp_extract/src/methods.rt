@@ -20,7 +20,7 @@ use crate::access::accesses;
 use crate::begun::begun;
 use crate::calls::CallTable;
 use crate::fault::FactsFault;
-use crate::initialisers::initialisers;
+use crate::initialisers::initialiser_flags;
 use crate::objects::{allocs, news};
 use crate::outcomes::{returned, thrown};
 use crate::room::{Left, Room};
@@ -54,7 +54,7 @@ pub(crate) fn gather(
     ensures gathered { IfOk result (HasGathered set.now room (coded set.now.classes)) }
     ensures fault { IfErr result (TellsPairs (coded set.now.classes)) }
 {
-    let initialisers = initialisers(alloc, set)?;
+    let initialisers = initialiser_flags(alloc, set)?;
     let mut gathered = Gathered {
         calls: CallTable::new(alloc, Left::of(room)),
         methods: Vec::new(alloc),

@@ -1,7 +1,7 @@
 use Rattle.std.proofs.Common.{arith}
 use Rattle.std.proofs.lemmas.List.FromFn.{map-range_with_len_more}
 use Rattle.fp_facts.specs.Initialisation.{has_initialiser}
-use Rattle.fp_extract.proofs.initialisers.initialisers.Goals as goal
+use Rattle.fp_extract.proofs.initialisers.initialiser_flags.Goals as goal
 
 pub loop-class-preserved : goal.loop-class-preserved
 loop-class-preserved c =
