@@ -1,0 +1,13 @@
+mod AskedPlaces
+mod BuiltCandidates
+mod CallPairs
+mod CellPlaces
+mod DeclaredClasses
+mod Each
+mod Evaluated
+mod GivenBits
+mod LawfulTasks
+mod MadeTasks
+mod PlaceLists
+mod RowLists
+mod RowTasks
