@@ -1,2 +1,3 @@
+mod GraphCells
 mod MethodLemmas
 pub mod RisingLemmas

@@ -18,6 +18,7 @@ mod model;
 mod ops;
 mod origin;
 mod pool;
+mod rta;
 mod solo;
 mod system;
 mod table;

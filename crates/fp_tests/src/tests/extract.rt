@@ -19,7 +19,7 @@ use std::alloc::{AllocError, Global};
 use std::test::Fail;
 
 /// More than the facts of any set here take.
-const AMPLE: Room = Room {
+pub const AMPLE: Room = Room {
     places: 1_048_576,
     uses: 16_777_216,
     gives: 16_777_216,
@@ -121,7 +121,7 @@ fn facts_text(alloc: Global, set: &ClassSet, facts: &Facts) -> Result<String, Fa
 }
 
 /// The set of class files, whose digits have spaces between them.
-fn load_digits(alloc: Global, digits: &str) -> Result<Loaded, Fail>
+pub fn load_digits(alloc: Global, digits: &str) -> Result<Loaded, Fail>
     ensures sound { IfOk result (λ loaded. All IsSoundMethod (methods_of loaded.set.classes)) }
     ensures kinded { IfOk result (λ loaded. All IsKindedMethod (methods_of loaded.set.classes)) }
 {
@@ -166,14 +166,14 @@ const H: &str = "\
     ";
 
 /// A final class L, whose constructor keeps another L in its field.
-const L: &str = "\
+pub const L: &str = "\
     cafebabe00000034000f0100014c0700010100106a6176612f6c616e672f4f626a6563740700030100047461696c0100034c4c3b0100063c696e6974\
     3e010006284c4c3b2956010004436f64650100032829560c0007000a0a0004000b0c00050006090002000d0031000200040000000100100005000600\
     0000010001000700080001000900000016000200020000000a2ab7000c2a2bb5000eb1000000000000\
     ";
 
 /// Classes A, B and C, where B and C extend A and each has a method m, and M, which makes a B and calls A.m on it.
-const CALLS: &str = "\
+pub const CALLS: &str = "\
     cafebabe00000034000b010001410700010100106a6176612f6c616e672f4f626a6563740700030100063c696e69743e010003282956010004436f64\
     650c000500060a000400080100016d002100020004000000000002000100050006000100070000001100010001000000052ab70009b1000000000001\
     000a0006000100070000000d0000000100000001b1000000000000 \
@@ -189,7 +189,7 @@ const CALLS: &str = "\
     ";
 
 /// Classes p.A, q.B and p.M of two packages, where B extends A, each of the two with a method m, and M makes a B and calls A.m on it.
-const PACKAGES: &str = "\
+pub const PACKAGES: &str = "\
     cafebabe00000034000b010003702f410700010100106a6176612f6c616e672f4f626a6563740700030100063c696e69743e01000328295601000443\
     6f64650c000500060a000400080100016d002100020004000000000002000100050006000100070000001100010001000000052ab70009b100000000\
     0000000a0006000100070000000d0000000100000001b1000000000000 \
@@ -449,7 +449,7 @@ fn one_method_file(
 }
 
 /// A class Base with a method m, so many classes that extend it and override m, and one that calls Base.m as often.
-fn overriders(alloc: Global, count: u32) -> Result<Loaded, Fail>
+pub fn overriders(alloc: Global, count: u32) -> Result<Loaded, Fail>
     ensures sound { IfOk result (λ loaded. All IsSoundMethod (methods_of loaded.set.classes)) }
     ensures kinded { IfOk result (λ loaded. All IsKindedMethod (methods_of loaded.set.classes)) }
 {
